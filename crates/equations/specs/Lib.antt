@@ -1,0 +1,5 @@
+pub mod Grounds
+pub mod Capacities
+pub mod Sums
+pub mod Margins
+pub mod Reserves

@@ -1,0 +1,120 @@
+//! Net and available capacities (NTC and ATC) of the four kinds of border, in one direction.
+ghost use mathlib.Core.Path.{_≡_};
+ghost use Rattle.equations.specs.Capacities.{counted, whole-side, circuit-cap, net-capacity, cut-at-0, line-available, available, Small};
+
+/// A direction over a border: forward is from the parent zone to the border's own zone.
+#[derive(Clone, Copy)]
+pub enum Direction {
+    Forward,
+    Backward,
+}
+
+/// The figures of a sheet for one direction, in MW.
+#[derive(Clone, Copy)]
+pub struct Side {
+    pub first: i32,
+    pub second: i32,
+    pub margin: i32,
+    pub reserve: i32,
+}
+
+/// How the kinds of border form their capacities.
+#[derive(Clone, Copy)]
+pub enum Formula {
+    Cable,
+    /// With the number of its circuits in operation.
+    Settlement(i32),
+    Line,
+    Given,
+}
+
+// A flow that is given forward, counted in a direction.
+fn count_in(direction: Direction, flow: i32) -> i64
+    ensures value { λ r. ⌜ r ≡ counted direction flow ⌝ }
+    ensures near { λ r. ⌜ Small r ⌝ }
+{
+    match direction {
+        Direction::Forward => i64::from(flow),
+        Direction::Backward => -i64::from(flow),
+    }
+}
+
+// What a side of a settlement border counts: below 50 MW nothing.
+fn settled(side: i64) -> i64
+    ensures { λ r. ⌜ r ≡ whole-side side ⌝ }
+{
+    if side < 50 { 0 } else { side }
+}
+
+// What a settlement border carries at most.
+fn cap_of(direction: Direction, circuits: i32) -> i64
+    ensures { λ r. ⌜ r ≡ circuit-cap direction circuits ⌝ }
+{
+    match direction {
+        Direction::Forward => { if circuits == 2 { 488 } else { 485 } }
+        Direction::Backward => 492,
+    }
+}
+
+/// The net capacity in a direction, not yet cut at 0.
+pub fn ntc(formula: Formula, direction: Direction, side: &Side) -> i64
+    ensures value { λ r. ⌜ r ≡ net-capacity formula direction (now (side .entry)) ⌝ }
+    ensures near { λ r. ⌜ Small r ⌝ }
+{
+    let first = i64::from(side.first);
+    let second = i64::from(side.second);
+    let margin = i64::from(side.margin);
+    match formula {
+        Formula::Cable => first.min(second),
+        Formula::Settlement(circuits) => settled(first)
+            .min(settled(second))
+            .min(cap_of(direction, circuits)),
+        Formula::Line => (first + i64::from(side.reserve) - margin).min(second - margin),
+        Formula::Given => first,
+    }
+}
+
+/// A net capacity below 0 becomes 0.
+pub fn cut(ntc: i64) -> i64
+    ensures { λ r. ⌜ r ≡ cut-at-0 ntc ⌝ }
+{
+    ntc.max(0)
+}
+
+// The net capacity that is offered in a direction: cut at 0.
+fn offered(formula: Formula, direction: Direction, side: &Side) -> i64
+    ensures value { λ r. ⌜ r ≡ cut-at-0 (net-capacity formula direction (now (side .entry))) ⌝ }
+    ensures near { λ r. ⌜ Small r ⌝ }
+{
+    cut(ntc(formula, direction, side))
+}
+
+// What of a line's net capacity is left in a direction, with flow and power flow counted in it.
+fn line_left(capacity: i64, margin: i64, flow: i64, power_flow: i64) -> i64
+    requires { ⌜ Small capacity × Small margin × Small flow × Small «power_flow» ⌝ }
+    ensures { λ r. ⌜ r ≡ line-available capacity margin flow «power_flow» ⌝ }
+{
+    let left = capacity - power_flow;
+    if flow > 0 {
+        left.min(capacity - flow + margin)
+    } else {
+        left
+    }
+}
+
+/// The available capacity in a direction, at a flow and a power flow that are given forward. It may be below 0.
+pub fn atc(formula: Formula, direction: Direction, side: &Side, flow: i32, power_flow: i32) -> i64
+    ensures { λ r. ⌜ r ≡ available formula direction (now (side .entry)) flow «power_flow» ⌝ }
+{
+    let capacity = offered(formula, direction, side);
+    let flow = count_in(direction, flow);
+    match formula {
+        Formula::Line => line_left(
+            capacity,
+            i64::from(side.margin),
+            flow,
+            count_in(direction, power_flow),
+        ),
+        Formula::Cable | Formula::Settlement(_) | Formula::Given => capacity - flow,
+    }
+}

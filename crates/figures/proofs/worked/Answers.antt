@@ -1,0 +1,11 @@
+use mathlib.Core.Path.{_≡_, refl, _∙_}
+use Rattle.figures.proofs.Margined.{figures-follow}
+use Rattle.figures.proofs.worked.Needs as need
+
+pub returns : need.returns
+returns c =
+    let m = c .in-Continue-m1 .ensures tt in
+    let r = c .in-Continue-r1 .ensures tt in
+    let s = c .settlements .ensures in
+    let l = c .lines .ensures in
+    simp (m, r, s, l) (figures-follow, refl)

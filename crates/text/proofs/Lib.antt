@@ -1,0 +1,3 @@
+mod DigitLaws
+pub mod LineLaws
+pub mod NumberLaws
