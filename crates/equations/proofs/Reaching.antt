@@ -10,7 +10,7 @@ use mir.Syntax.{w64}
 use mir.Val.{SFits}
 use Rattle.std.proofs.shelf.Signed.{ints, by-ltZ}
 use Rattle.equations.proofs.Products.{Near, near-product}
-use Rattle.equations.specs.Margins.{excess, reach, spread, Reached, Greatest, Sums}
+use Rattle.equations.specs.Margins.{excess, reach, spread, Reached, Greatest, Allowed-sums}
 
 pub square-least : (a : ℤ) → pos 0 ≤ℤ (a *ℤ a)
 square-least (pos a) = omega (arith, ints)
@@ -68,7 +68,7 @@ pub record Fitting (p q : ℤ) : Type 0 where
   pub least : pos 0 ≤ℤ (pos 4 *ℤ (p -ℤ q))
   pub most : (pos 4 *ℤ (p -ℤ q)) ≤ℤ pos 40000000000000000
 
-pub fitting : (n S Q : ℤ) → Sums n S Q → Fitting (n *ℤ Q) (S *ℤ S)
+pub fitting : (n S Q : ℤ) → Allowed-sums n S Q → Fitting (n *ℤ Q) (S *ℤ S)
 fitting n S Q s =
     let ns : Near 100000000 S = (omega (arith, ints), omega (arith, ints)) in
     let nn : Near 44640 n = (omega (arith, ints), omega (arith, ints)) in
@@ -96,7 +96,7 @@ spread-most : (p q : ℤ) → pos 0 ≤ℤ q → (pos 4 *ℤ (p -ℤ q)) ≤ℤ 
 spread-most p q h = omega (arith, ints)
 
 -- no margin comes to 6,192
-pub top-missed : (n S Q : ℤ) → Sums n S Q → Reached n S (reach n S Q) (pos 6192) → ⊥
+pub top-missed : (n S Q : ℤ) → Allowed-sums n S Q → Reached n S (reach n S Q) (pos 6192) → ⊥
 top-missed (pos k) S (pos q) s (inl low) =
     let a = s .sum-most in let b = s .few in omega (arith, ints)
 top-missed (pos k) S (pos q) s (inr under) =

@@ -43,8 +43,8 @@ pub record Greatest (n S B t : ℤ) : Type 0 where
 abbrev pub Margin : ℤ → ℤ → ℤ → ℤ → Type 0
 Margin n S Q t = Greatest n S (reach n S Q) t
 
--- numbers that 2 to 44,640 deviations within ±2,000 can have for n, S and Q
-pub record Sums (n S Q : ℤ) : Type 0 where
+-- the bounds that n, S and Q of 2 to 44,640 deviations within ±2,000 keep
+pub record Allowed-sums (n S Q : ℤ) : Type 0 where
   pub few : pos 2 ≤ℤ n
   pub many : n ≤ℤ pos 44640
   pub sum-least : negℤ (pos 2000 *ℤ n) ≤ℤ S

@@ -4,13 +4,13 @@ ghost use lib.IntN.{pos, negsuc, _+ℤ_, _*ℤ_, negℤ};
 ghost use lib.Signed.{_≤ℤ_, quotZ};
 ghost use Rattle.std.specs.Orderings.{When};
 ghost use Rattle.std.specs.Options.{Cases as BySome};
-ghost use Rattle.equations.specs.Margins.{excess, spread, Reached, Greatest, Margin, Sums, Margin-of, margin-refused};
+ghost use Rattle.equations.specs.Margins.{excess, spread, Reached, Greatest, Margin, Allowed-sums, Margin-of, margin-refused};
 ghost use Rattle.equations.specs.Grounds.{Judged};
 use crate::FigureFault;
 
-// Whether deviations within their bounds can have these sums.
+// Whether these numbers keep the bounds that the sums of deviations keep.
 fn sums_allowed(count: i64, sum: i64, squares: i64) -> bool
-    ensures { λ r. ⌜ When r (Sums count sum squares) (Sums count sum squares → ⊥) ⌝ }
+    ensures { λ r. ⌜ When r (Allowed-sums count sum squares) (Allowed-sums count sum squares → ⊥) ⌝ }
 {
     if count < 2 || count > 44_640 {
         return false;
@@ -69,7 +69,7 @@ fn search_margin(count: i64, sum: i64, bound: i64) -> i64
 
 // Four times the summed squared distances from the mean, times their count.
 fn spread_of(count: i64, sum: i64, squares: i64) -> i64
-    requires { ⌜ Sums count sum squares ⌝ }
+    requires { ⌜ Allowed-sums count sum squares ⌝ }
     ensures value { λ r. ⌜ r ≡ spread count sum squares ⌝ }
     ensures near { λ r. ⌜ pos 0 ≤ℤ r ⌝ ∗ ⌜ r ≤ℤ pos 40000000000000000 ⌝ }
 {
@@ -86,9 +86,9 @@ fn widened(spread: i64, fewer: i64) -> i64
     spread + spread / fewer
 }
 
-/// The margin of `count` deviations whose sum and sum of squares are given; none where no deviations within their bounds have such sums.
+/// The margin of `count` deviations whose sum and sum of squares are given; none where these break a bound that the sums of deviations keep.
 pub fn margin_of_sums(count: i64, sum: i64, squares: i64) -> Option<i32>
-    ensures { λ r. ⌜ BySome r (Sums count sum squares → ⊥) (λ t. Sums count sum squares × Margin count sum squares t) ⌝ }
+    ensures { λ r. ⌜ BySome r (Allowed-sums count sum squares → ⊥) (λ t. Allowed-sums count sum squares × Margin count sum squares t) ⌝ }
 {
     if !sums_allowed(count, sum, squares) {
         return None;

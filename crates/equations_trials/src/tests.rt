@@ -96,7 +96,11 @@ fn reserves() -> Result<(), Fail> {
         check(count <= 9)?;
         check_eq(reserve(&all[0..count], regulation), answer)?;
     }
-    let last_bad = [source(5_000, 0, 0, 0), source(0, 100, 100, 100), source(-1, 0, 0, 0)];
+    let last_bad = [
+        source(5_000, 0, 0, 0),
+        source(0, 100, 100, 100),
+        source(-1, 0, 0, 0),
+    ];
     check_eq(reserve(&last_bad, 0), Err(FigureFault::Entry(3)))
 }
 
@@ -126,7 +130,13 @@ fn lines() -> Result<(), Fail> {
         (Direction::Backward, wide, -300, -200, 647),
     ];
     for (direction, side, flow, power_flow, answer) in table {
-        check_eq(atc(Formula::Line, direction, &side, flow, power_flow), answer)?;
+        check_eq(
+            atc(Formula::Line, direction, &side, flow, power_flow),
+            answer,
+        )?;
     }
-    check_eq(atc(Formula::Given, Direction::Backward, &wide, i32::MIN, 0), 700 - 2_147_483_648)
+    check_eq(
+        atc(Formula::Given, Direction::Backward, &wide, i32::MIN, 0),
+        700 - 2_147_483_648,
+    )
 }

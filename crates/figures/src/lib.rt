@@ -48,7 +48,10 @@ fn reserves() -> Result<[i64; 2], FigureFault>
         row50: 0,
         row0: 0,
     }];
-    Ok([i64::from(reserve(&both, 350)?), i64::from(reserve(&one, 101)?)])
+    Ok([
+        i64::from(reserve(&both, 350)?),
+        i64::from(reserve(&one, 101)?),
+    ])
 }
 
 // The side of a sheet with two capacities and nothing else.

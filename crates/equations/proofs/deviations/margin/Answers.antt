@@ -14,7 +14,7 @@ use Rattle.std.proofs.shelf.Signed.{ints, toZ-ofZ, toZ-pos}
 use Rattle.std.proofs.shelf.Sums.{leading-drop-yes, leading-drop-no, leading-drop-all}
 use Rattle.std.proofs.shelf.Ways.{tells}
 use Rattle.std.specs.shelf.Lists.{leading}
-use Rattle.equations.specs.Margins.{Sums, Margin-of, sum-of, squares-of, deviation-allowed, count-allowed}
+use Rattle.equations.specs.Margins.{Allowed-sums, Margin-of, sum-of, squares-of, deviation-allowed, count-allowed}
 use Rattle.equations.proofs.Judging.{judged-overall, judged-entry, judged-answer}
 use Rattle.equations.proofs.Products.{Near, near-product, near-fits}
 use Rattle.equations.proofs.Reaching.{square-least}
@@ -129,7 +129,7 @@ loop-i-again c =
     joined n i k l e f = omega arith
 
 -- deviations within their bounds have sums that are allowed
-allowed-sums : (ds : List ℤ) (i : ℕ) (S Q : ℤ) → 2 ≤ length ds → length ds ≤ 44640 → i ≡ length ds → S ≡ sum-of ds → Q ≡ squares-of ds → negℤ (pos 2000 *ℤ pos i) ≤ℤ S → S ≤ℤ (pos 2000 *ℤ pos i) → pos 0 ≤ℤ Q → Q ≤ℤ (pos 4000000 *ℤ pos i) → Sums (pos (length ds)) (sum-of ds) (squares-of ds)
+allowed-sums : (ds : List ℤ) (i : ℕ) (S Q : ℤ) → 2 ≤ length ds → length ds ≤ 44640 → i ≡ length ds → S ≡ sum-of ds → Q ≡ squares-of ds → negℤ (pos 2000 *ℤ pos i) ≤ℤ S → S ≤ℤ (pos 2000 *ℤ pos i) → pos 0 ≤ℤ Q → Q ≤ℤ (pos 4000000 *ℤ pos i) → Allowed-sums (pos (length ds)) (sum-of ds) (squares-of ds)
 allowed-sums ds i S Q few many ei es eq a b c d = record {
   few = omega (arith, ints);
   many = omega (arith, ints);

@@ -6,7 +6,7 @@ use lib.Signed.{_≤ℤ_, quotZ}
 use mir.Syntax.{w32, w64}
 use mir.Val.{SFits}
 use Rattle.std.proofs.shelf.Signed.{ints, toZ-ofZ}
-use Rattle.equations.specs.Margins.{Sums, Greatest, Reached, reach, spread}
+use Rattle.equations.specs.Margins.{Allowed-sums, Greatest, Reached, reach, spread}
 use Rattle.equations.proofs.Reaching.{top-missed}
 use Rattle.equations.proofs.deviations.margin_of_sums.Needs as need
 

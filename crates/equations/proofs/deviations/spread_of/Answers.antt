@@ -6,7 +6,7 @@ use lib.Signed.{_≤ℤ_}
 use mir.Syntax.{w64}
 use mir.Val.{SFits}
 use Rattle.std.proofs.shelf.Signed.{ints, toZ-ofZ}
-use Rattle.equations.specs.Margins.{Sums, spread}
+use Rattle.equations.specs.Margins.{Allowed-sums, spread}
 use Rattle.equations.proofs.Reaching.{Fitting, fitting}
 use Rattle.equations.proofs.deviations.spread_of.Needs as need
 
