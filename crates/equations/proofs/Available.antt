@@ -11,7 +11,8 @@ use mir.Syntax.{w32, w64}
 use mir.Val.{SFits}
 use Rattle.std.specs.Numbers.{minZ}
 use Rattle.std.proofs.shelf.Signed.{ints, clamps}
-use Rattle.equations.specs.Capacities.{available, line-available, net-capacity, cut-at-0, counted, Small, whole-side, circuit-cap, two}
+use Rattle.equations.specs.Ranges.{between, Small}
+use Rattle.equations.specs.Capacities.{available, line-available, net-capacity, counted, settled-capacity, circuit-cap}
 use Rattle.equations.specs.declared.capacity.Side.{Side}
 use Rattle.equations.specs.declared.capacity.Direction.{Direction}
 use Rattle.equations.specs.declared.capacity.Direction.the-variants.{Forward, Backward}
@@ -30,18 +31,18 @@ pub counted-small : (to : Direction) (x : ℤ) → SFits w32 x → Small (counte
 counted-small Forward x h = omega (arith, ints)
 counted-small Backward x h = omega (arith, ints)
 
-whole-fits : (x : ℤ) → SFits w32 x → SFits w32 (whole-side x)
-whole-fits x h = elim (ltZ x (pos 50)) as (λ b. SFits w32 (cond b (pos 0) x)) [ true ↦ record { sfits = lit< tt } | false ↦ h ]
+settled-fits : (x : ℤ) → SFits w32 x → SFits w32 (settled-capacity x)
+settled-fits x h = elim (ltZ x (pos 50)) as (λ b. SFits w32 (cond b (pos 0) x)) [ true ↦ record { sfits = lit< tt } | false ↦ h ]
 
 cap-between : (to : Direction) (n : ℤ) → (pos 485 ≤ℤ circuit-cap to n) × (circuit-cap to n ≤ℤ pos 492)
-cap-between Forward n = elim (two n) as (λ b. (pos 485 ≤ℤ cond b (pos 488) (pos 485)) × (cond b (pos 488) (pos 485) ≤ℤ pos 492)) [ true ↦ (omega (arith, ints), omega (arith, ints)) | false ↦ (omega (arith, ints), omega (arith, ints)) ]
+cap-between Forward n = elim (between (pos 2) n (pos 2)) as (λ b. (pos 485 ≤ℤ cond b (pos 488) (pos 485)) × (cond b (pos 488) (pos 485) ≤ℤ pos 492)) [ true ↦ (omega (arith, ints), omega (arith, ints)) | false ↦ (omega (arith, ints), omega (arith, ints)) ]
 cap-between Backward n = (omega (arith, ints), omega (arith, ints))
 
 capped-small : (x y cap : ℤ) → SFits w32 x → SFits w32 y → pos 485 ≤ℤ cap → cap ≤ℤ pos 492 → Small (minZ (minZ x y) cap)
 capped-small x y cap hx hy h k = omega (arith, ints, clamps)
 
-pub settlement-small : (x y : ℤ) (to : Direction) (n : ℤ) → SFits w32 x → SFits w32 y → Small (minZ (minZ (whole-side x) (whole-side y)) (circuit-cap to n))
-settlement-small x y to n hx hy = capped-small (whole-side x) (whole-side y) (circuit-cap to n) (whole-fits x hx) (whole-fits y hy) (cap-between to n .0) (cap-between to n .1)
+pub settlement-small : (x y : ℤ) (to : Direction) (n : ℤ) → SFits w32 x → SFits w32 y → Small (minZ (minZ (settled-capacity x) (settled-capacity y)) (circuit-cap to n))
+settlement-small x y to n hx hy = capped-small (settled-capacity x) (settled-capacity y) (circuit-cap to n) (settled-fits x hx) (settled-fits y hy) (cap-between to n .0) (cap-between to n .1)
 
 -- the parts of a line's capacity fit a machine number
 pub sums-fit : (x y m r : ℤ) → SFits w32 x → SFits w32 y → SFits w32 m → SFits w32 r → SFits w64 (x +ℤ r) × SFits w64 (x +ℤ r -ℤ m) × SFits w64 (y -ℤ m)
@@ -64,7 +65,7 @@ line-small x y m r hx hy hm hr = omega (arith, ints, clamps)
 abbrev pub Plain : Formula → Type 0
 Plain f = (f ≡ Cable) ⊎ (((n : ℤ) × (f ≡ Settlement n)) ⊎ (f ≡ Given))
 
-pub plain-available : (f : Formula) (to : Direction) (s : Side) (a p : ℤ) → Plain f → available f to s a p ≡ cut-at-0 (net-capacity f to s) -ℤ counted to a
+pub plain-available : (f : Formula) (to : Direction) (s : Side) (a p : ℤ) → Plain f → available f to s a p ≡ net-capacity f to s -ℤ counted to a
 plain-available Cable to s a p h = refl
 plain-available (Settlement n) to s a p h = refl
 plain-available Given to s a p h = refl

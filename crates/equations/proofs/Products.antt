@@ -7,13 +7,10 @@ use lib.IntN.{ℤ, pos, negsuc, _+ℤ_, _-ℤ_, _*ℤ_, negℤ, natAbs}
 use lib.Signed.{_≤ℤ_, _<ℤ_, leZ, quotZ}
 use mathlib.Core.Bool.{Bool, true, false}
 use Rattle.std.specs.Orderings.{When}
+use Rattle.equations.specs.Ranges.{Near}
 use mir.Syntax.{w64}
 use mir.Val.{SFits}
 use Rattle.std.proofs.shelf.Signed.{ints}
-
--- within ±A
-abbrev pub Near : ℕ → ℤ → Type 0
-Near A a = (negℤ (pos A) ≤ℤ a) × (a ≤ℤ pos A)
 
 abs-neg : (n : ℕ) → natAbs (negℤ (pos n)) ≡ n
 abs-neg zero = refl

@@ -9,8 +9,9 @@ use lib.Signed.{_≤ℤ_, _<ℤ_, quotZ}
 use mir.Syntax.{w64}
 use mir.Val.{SFits}
 use Rattle.std.proofs.shelf.Signed.{ints, by-ltZ}
-use Rattle.equations.proofs.Products.{Near, near-product}
-use Rattle.equations.specs.Margins.{excess, reach, spread, Reached, Greatest, Allowed-sums}
+use Rattle.equations.specs.Ranges.{Near}
+use Rattle.equations.proofs.Products.{near-product}
+use Rattle.equations.specs.Margins.{excess, square-bound, spread, Reached, Greatest, Allowed-sums}
 
 pub square-least : (a : ℤ) → pos 0 ≤ℤ (a *ℤ a)
 square-least (pos a) = omega (arith, ints)
@@ -96,7 +97,7 @@ spread-most : (p q : ℤ) → pos 0 ≤ℤ q → (pos 4 *ℤ (p -ℤ q)) ≤ℤ 
 spread-most p q h = omega (arith, ints)
 
 -- no margin comes to 6,192
-pub top-missed : (n S Q : ℤ) → Allowed-sums n S Q → Reached n S (reach n S Q) (pos 6192) → ⊥
+pub top-missed : (n S Q : ℤ) → Allowed-sums n S Q → Reached n S (square-bound n S Q) (pos 6192) → ⊥
 top-missed (pos k) S (pos q) s (inl low) =
     let a = s .sum-most in let b = s .few in omega (arith, ints)
 top-missed (pos k) S (pos q) s (inr under) =

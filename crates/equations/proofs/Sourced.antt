@@ -14,7 +14,8 @@ use Rattle.equations.specs.declared.sources.Source.{Source}
 use Rattle.equations.specs.declared.sources.Row.{Row}
 use Rattle.equations.specs.declared.sources.Row.the-variants.{Hundred, Fifty, Zero}
 use Rattle.equations.specs.Reserves.{source-allowed, coefficient}
-use Rattle.equations.proofs.Products.{Near, near-product}
+use Rattle.equations.specs.Ranges.{Near}
+use Rattle.equations.proofs.Products.{near-product}
 
 -- what the code reads past the end of a slice, which it never does
 abbrev pub blank : Source

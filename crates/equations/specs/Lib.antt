@@ -1,5 +1,6 @@
+pub mod Ranges
 pub mod Grounds
-pub mod Capacities
 pub mod Sums
+pub mod Capacities
 pub mod Margins
 pub mod Reserves

@@ -23,8 +23,8 @@ abbrev pub spread : ℤ → ℤ → ℤ → ℤ
 spread n S Q = pos 4 *ℤ (n *ℤ Q -ℤ S *ℤ S)
 
 -- V + V / (n − 1), rounded down: V is never below 0
-abbrev pub reach : ℤ → ℤ → ℤ → ℤ
-reach n S Q = spread n S Q +ℤ quotZ (spread n S Q) (n -ℤ pos 1)
+abbrev pub square-bound : ℤ → ℤ → ℤ → ℤ
+square-bound n S Q = spread n S Q +ℤ quotZ (spread n S Q) (n -ℤ pos 1)
 
 -- x = (2 t − 1) n − 2 S
 abbrev pub excess : ℤ → ℤ → ℤ → ℤ
@@ -41,7 +41,7 @@ pub record Greatest (n S B t : ℤ) : Type 0 where
 
 -- the margin of n deviations with the sums S and Q
 abbrev pub Margin : ℤ → ℤ → ℤ → ℤ → Type 0
-Margin n S Q t = Greatest n S (reach n S Q) t
+Margin n S Q t = Greatest n S (square-bound n S Q) t
 
 -- the bounds that n, S and Q of 2 to 44,640 deviations within ±2,000 keep
 pub record Allowed-sums (n S Q : ℤ) : Type 0 where

@@ -1,5 +1,4 @@
--- Sums over a list, and where the first entry out of bounds stands.
-use mathlib.Core.Bool.{Bool, cond}
+-- Sums over a list.
 use mathlib.Core.List.{List, [], _∷_}
 use lib.IntN.{ℤ, pos, _+ℤ_}
 

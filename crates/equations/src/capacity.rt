@@ -1,6 +1,7 @@
 //! Net and available capacities (NTC and ATC) of the four kinds of border, in one direction.
 ghost use mathlib.Core.Path.{_≡_};
-ghost use Rattle.equations.specs.Capacities.{counted, whole-side, circuit-cap, net-capacity, cut-at-0, line-available, available, Small};
+ghost use Rattle.equations.specs.Ranges.{Small};
+ghost use Rattle.equations.specs.Capacities.{counted, settled-capacity, circuit-cap, uncut-capacity, cut-at-0, net-capacity, line-available, available};
 
 /// A direction over a border: forward is from the parent zone to the border's own zone.
 #[derive(Clone, Copy)]
@@ -39,11 +40,11 @@ fn count_in(direction: Direction, flow: i32) -> i64
     }
 }
 
-// What a side of a settlement border counts: below 50 MW nothing.
-fn settled(side: i64) -> i64
-    ensures { λ r. ⌜ r ≡ whole-side side ⌝ }
+// What a capacity counts for at a settlement border: below 50 MW nothing.
+fn settled(capacity: i64) -> i64
+    ensures { λ r. ⌜ r ≡ settled-capacity capacity ⌝ }
 {
-    if side < 50 { 0 } else { side }
+    if capacity < 50 { 0 } else { capacity }
 }
 
 // What a settlement border carries at most.
@@ -56,9 +57,9 @@ fn cap_of(direction: Direction, circuits: i32) -> i64
     }
 }
 
-/// The net capacity in a direction, not yet cut at 0.
-pub fn ntc(formula: Formula, direction: Direction, side: &Side) -> i64
-    ensures value { λ r. ⌜ r ≡ net-capacity formula direction (now (side .entry)) ⌝ }
+// The net capacity in a direction, not yet cut at 0.
+fn form(formula: Formula, direction: Direction, side: &Side) -> i64
+    ensures value { λ r. ⌜ r ≡ uncut-capacity formula direction (now (side .entry)) ⌝ }
     ensures near { λ r. ⌜ Small r ⌝ }
 {
     let first = i64::from(side.first);
@@ -74,19 +75,26 @@ pub fn ntc(formula: Formula, direction: Direction, side: &Side) -> i64
     }
 }
 
-/// A net capacity below 0 becomes 0.
-pub fn cut(ntc: i64) -> i64
-    ensures { λ r. ⌜ r ≡ cut-at-0 ntc ⌝ }
+/// The net capacity in a direction, not yet cut at 0: what lowers it later comes off before the cut.
+pub fn uncut_ntc(formula: Formula, direction: Direction, side: &Side) -> i64
+    ensures { λ r. ⌜ r ≡ uncut-capacity formula direction (now (side .entry)) ⌝ }
 {
-    ntc.max(0)
+    form(formula, direction, side)
 }
 
-// The net capacity that is offered in a direction: cut at 0.
-fn offered(formula: Formula, direction: Direction, side: &Side) -> i64
-    ensures value { λ r. ⌜ r ≡ cut-at-0 (net-capacity formula direction (now (side .entry))) ⌝ }
+/// A capacity below 0 becomes 0.
+pub fn cut(capacity: i64) -> i64
+    ensures { λ r. ⌜ r ≡ cut-at-0 capacity ⌝ }
+{
+    capacity.max(0)
+}
+
+// The net capacity in a direction.
+fn net(formula: Formula, direction: Direction, side: &Side) -> i64
+    ensures value { λ r. ⌜ r ≡ net-capacity formula direction (now (side .entry)) ⌝ }
     ensures near { λ r. ⌜ Small r ⌝ }
 {
-    cut(ntc(formula, direction, side))
+    cut(form(formula, direction, side))
 }
 
 // What of a line's net capacity is left in a direction, with flow and power flow counted in it.
@@ -106,7 +114,7 @@ fn line_left(capacity: i64, margin: i64, flow: i64, power_flow: i64) -> i64
 pub fn atc(formula: Formula, direction: Direction, side: &Side, flow: i32, power_flow: i32) -> i64
     ensures { λ r. ⌜ r ≡ available formula direction (now (side .entry)) flow «power_flow» ⌝ }
 {
-    let capacity = offered(formula, direction, side);
+    let capacity = net(formula, direction, side);
     let flow = count_in(direction, flow);
     match formula {
         Formula::Line => line_left(

@@ -1,9 +1,10 @@
 //! The margin of deviations between planned and actual flows.
 ghost use mathlib.Core.Path.{_≡_};
-ghost use lib.IntN.{pos, negsuc, _+ℤ_, _*ℤ_, negℤ};
+ghost use lib.IntN.{pos, _+ℤ_, _-ℤ_, _*ℤ_, negℤ};
 ghost use lib.Signed.{_≤ℤ_, quotZ};
 ghost use Rattle.std.specs.Orderings.{When};
 ghost use Rattle.std.specs.Options.{Cases as BySome};
+ghost use Rattle.equations.specs.Ranges.{Near};
 ghost use Rattle.equations.specs.Margins.{excess, spread, Reached, Greatest, Margin, Allowed-sums, Margin-of, margin-refused};
 ghost use Rattle.equations.specs.Grounds.{Judged};
 use crate::FigureFault;
@@ -22,23 +23,26 @@ fn sums_allowed(count: i64, sum: i64, squares: i64) -> bool
     sum * sum <= count * squares
 }
 
+// Twice t less 1: twice the least number that rounds to t.
+fn doubled_edge(t: i64) -> i64
+    requires { ⌜ Near 10000 t ⌝ }
+    ensures { λ r. ⌜ r ≡ pos 2 *ℤ t -ℤ pos 1 ⌝ }
+{
+    2 * t - 1
+}
+
 // How far (2 t - 1) n lies above 2 S.
 fn excess_at(count: i64, sum: i64, t: i64) -> i64
-    requires count { ⌜ pos 0 ≤ℤ count ⌝ ∗ ⌜ count ≤ℤ pos 44640 ⌝ }
-    requires sum { ⌜ negℤ (pos 100000000) ≤ℤ sum ⌝ ∗ ⌜ sum ≤ℤ pos 100000000 ⌝ }
-    requires t { ⌜ negℤ (pos 10000) ≤ℤ t ⌝ ∗ ⌜ t ≤ℤ pos 10000 ⌝ }
+    requires near { ⌜ Near 44640 count × Near 100000000 sum × Near 10000 t ⌝ }
     ensures value { λ r. ⌜ r ≡ excess count sum t ⌝ }
-    ensures near { λ r. ⌜ negℤ (pos 2000000000) ≤ℤ r ⌝ ∗ ⌜ r ≤ℤ pos 2000000000 ⌝ }
+    ensures near { λ r. ⌜ Near 2000000000 r ⌝ }
 {
-    let odd = 2 * t - 1;
-    odd * count - 2 * sum
+    doubled_edge(t) * count - 2 * sum
 }
 
 // Whether a whole t does not pass the margin.
 fn reached(count: i64, sum: i64, bound: i64, t: i64) -> bool
-    requires count { ⌜ pos 0 ≤ℤ count ⌝ ∗ ⌜ count ≤ℤ pos 44640 ⌝ }
-    requires sum { ⌜ negℤ (pos 100000000) ≤ℤ sum ⌝ ∗ ⌜ sum ≤ℤ pos 100000000 ⌝ }
-    requires t { ⌜ negℤ (pos 10000) ≤ℤ t ⌝ ∗ ⌜ t ≤ℤ pos 10000 ⌝ }
+    requires near { ⌜ Near 44640 count × Near 100000000 sum × Near 10000 t ⌝ }
     ensures { λ r. ⌜ When r (Reached count sum bound t) (Reached count sum bound t → ⊥) ⌝ }
 {
     let over = excess_at(count, sum, t);
@@ -77,13 +81,21 @@ fn spread_of(count: i64, sum: i64, squares: i64) -> i64
     4 * (product - sum * sum)
 }
 
-// A spread with the part of it that n - 1 gives, rounded down.
-fn widened(spread: i64, fewer: i64) -> i64
-    requires spread { ⌜ pos 0 ≤ℤ spread ⌝ ∗ ⌜ spread ≤ℤ pos 40000000000000000 ⌝ }
-    requires fewer { ⌜ pos 1 ≤ℤ fewer ⌝ }
-    ensures { λ r. ⌜ r ≡ spread +ℤ quotZ spread fewer ⌝ }
+// One deviation fewer.
+fn one_fewer(count: i64) -> i64
+    requires { ⌜ Near 44640 count ⌝ }
+    ensures { λ r. ⌜ r ≡ count -ℤ pos 1 ⌝ }
 {
-    spread + spread / fewer
+    count - 1
+}
+
+// What the square of an excess may come to: V, and the part of it that n - 1 gives, rounded down.
+fn square_bound(v: i64, fewer: i64) -> i64
+    requires v { ⌜ pos 0 ≤ℤ v ⌝ ∗ ⌜ v ≤ℤ pos 40000000000000000 ⌝ }
+    requires fewer { ⌜ pos 1 ≤ℤ fewer ⌝ }
+    ensures { λ r. ⌜ r ≡ v +ℤ quotZ v fewer ⌝ }
+{
+    v + v / fewer
 }
 
 /// The margin of `count` deviations whose sum and sum of squares are given; none where these break a bound that the sums of deviations keep.
@@ -93,7 +105,7 @@ pub fn margin_of_sums(count: i64, sum: i64, squares: i64) -> Option<i32>
     if !sums_allowed(count, sum, squares) {
         return None;
     }
-    let bound = widened(spread_of(count, sum, squares), count - 1);
+    let bound = square_bound(spread_of(count, sum, squares), one_fewer(count));
     Some(search_margin(count, sum, bound) as i32)
 }
 

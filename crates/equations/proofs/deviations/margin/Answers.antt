@@ -16,7 +16,8 @@ use Rattle.std.proofs.shelf.Ways.{tells}
 use Rattle.std.specs.shelf.Lists.{leading}
 use Rattle.equations.specs.Margins.{Allowed-sums, Margin-of, sum-of, squares-of, deviation-allowed, count-allowed}
 use Rattle.equations.proofs.Judging.{judged-overall, judged-entry, judged-answer}
-use Rattle.equations.proofs.Products.{Near, near-product, near-fits}
+use Rattle.equations.specs.Ranges.{Near}
+use Rattle.equations.proofs.Products.{near-product, near-fits}
 use Rattle.equations.proofs.Reaching.{square-least}
 use Rattle.equations.proofs.Totals.{total-none, total-more, square-covered}
 use Rattle.equations.proofs.deviations.margin.Needs as need

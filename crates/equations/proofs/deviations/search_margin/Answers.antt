@@ -9,6 +9,7 @@ use lib.Signed.{_≤ℤ_, _<ℤ_}
 use mir.Syntax.{w64}
 use mir.Val.{SFits}
 use Rattle.std.proofs.shelf.Signed.{ints, toZ-ofZ, by-ltZ}
+use Rattle.equations.specs.Ranges.{Near}
 use Rattle.equations.specs.Margins.{Reached, Greatest}
 use Rattle.equations.proofs.Reaching.{low-reached, last-reached}
 use Rattle.equations.proofs.deviations.search_margin.Needs as need
@@ -25,22 +26,15 @@ loop-width-holds c =
 
 -- what `reached` asks of its numbers
 record Askable (n S t : ℤ) : Type 0 where
-  count-least : pos 0 ≤ℤ n
-  sum-least : negsuc 99999999 ≤ℤ S
-  sum-most : S ≤ℤ pos 100000000
-  least : negsuc 9999 ≤ℤ t
-  most : t ≤ℤ pos 10000
+  count : Near 44640 n
+  sum : Near 100000000 S
+  middle : Near 10000 t
   fits : SFits w64 t
 
 askable : (n S m : ℤ) (low width : ℕ) → pos 2 ≤ℤ n → n ≤ℤ pos 44640 → negℤ (pos 2000 *ℤ n) ≤ℤ S → S ≤ℤ (pos 2000 *ℤ n) → m ≡ pos (low + width / 2) → low + width ≤ 8192 → Askable n S (m -ℤ pos 2000)
 askable n S m low width few many least most e h = record {
-  count-least = omega (arith, ints);
-  sum-least = omega (arith, ints);
-  sum-most = omega (arith, ints);
-  least = omega (arith, ints);
-  most = omega (arith, ints);
-  fits = omega (arith, ints);
-}
+    count = (omega (arith, ints), many); sum = (omega (arith, ints), omega (arith, ints));
+    middle = (omega (arith, ints), omega (arith, ints)); fits = omega (arith, ints) }
 
 asked : (c : need.After-from) → Askable (c .args .count) (c .args .sum) (c .from .result -ℤ pos 2000)
 asked c = askable (c .args .count) (c .args .sum) (c .from .result) (c .loop-width .low) (c .loop-width .width) (c .pre .count .0) (c .pre .count .1) (c .pre .sum .0) (c .pre .sum .1) (c .from .ensures) (c .loop-width .inv .3)
@@ -52,7 +46,7 @@ reached-requires c κs =
     let r1 : SFits w64 (c .from .result) = record { sfits = c .from .ok } in
     let k = asked c in
     let f3 = k .fits in
-    simp toZ-ofZ record { count = (k .count-least, c .pre .count .1); sum = (k .sum-least, k .sum-most); t = (k .least, k .most) }
+    simp toZ-ofZ record { near = (k .count, k .sum, k .middle) }
 
 -- the lower half and the upper half of a width
 halves : (low width : ℕ) → 1 < width → low + width ≤ 8192 → (low + width ≡ (low + width / 2) + (width - width / 2)) × (1 ≤ width - width / 2) × (1 ≤ width / 2) × ((low + width / 2) + (width - width / 2) ≤ 8192) × (low + width / 2 ≤ 8192)

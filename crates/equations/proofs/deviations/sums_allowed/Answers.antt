@@ -10,7 +10,8 @@ use mir.Syntax.{w64}
 use mir.Val.{SFits}
 use Rattle.std.proofs.shelf.Signed.{ints, toZ-ofZ}
 use Rattle.equations.specs.Margins.{Allowed-sums}
-use Rattle.equations.proofs.Products.{Near, near-product, near-fits, when-le}
+use Rattle.equations.specs.Ranges.{Near}
+use Rattle.equations.proofs.Products.{near-product, near-fits, when-le}
 use Rattle.equations.proofs.deviations.sums_allowed.Needs as need
 use Rattle.equations.proofs.deviations.sums_allowed.Needs.{then-sum-most·by·then-sum-most, then-sum-most·by·else-sum-most·then-sum-most-2, then-sum-most·by·else-sum-most·else-sum-most-2·then-squares-lt0, then-sum-most·by·else-sum-most·else-sum-most-2·else-squares-lt0·then-squares-most}
 

@@ -6,9 +6,9 @@ use mir.Syntax.{w32, w64}
 use mir.Val.{SFits}
 use Rattle.std.specs.Numbers.{minZ}
 use Rattle.std.proofs.shelf.Signed.{ints, toZ-ofZ}
-use Rattle.equations.specs.Capacities.{whole-side, circuit-cap}
+use Rattle.equations.specs.Capacities.{settled-capacity, circuit-cap}
 use Rattle.equations.proofs.Available.{cable-small, settlement-small, line-small, sums-fit, given-small}
-use Rattle.equations.proofs.capacity.ntc.Needs as need
+use Rattle.equations.proofs.capacity.form.Needs as need
 
 pub returns-in-Cable : need.returns-in-Cable
 returns-in-Cable c =
@@ -44,7 +44,7 @@ returns-in-Settlement c =
     let e5 = simp toZ-ofZ at (c .min-in-Settlement .ensures .value) in
     let e6 = simp toZ-ofZ at (c .cap-of .ensures) in
     let e7 = simp toZ-ofZ at (c .min-in-Settlement-2 .ensures .value) in
-    let e : c .min-in-Settlement-2 .result ≡ minZ (minZ (whole-side (t .first)) (whole-side (t .second))) (circuit-cap (c .args .direction) (c .in-Settlement .circuits)) = cc in
+    let e : c .min-in-Settlement-2 .result ≡ minZ (minZ (settled-capacity (t .first)) (settled-capacity (t .second))) (circuit-cap (c .args .direction) (c .in-Settlement .circuits)) = cc in
     rw (c .in-Settlement .is, toZ-ofZ w64 (c .min-in-Settlement-2 .result) r7) record { value = e; near = rw e (settlement-small (t .first) (t .second) (c .args .direction) (c .in-Settlement .circuits) f1 f2) }
 
 pub returns-in-Line : need.returns-in-Line
