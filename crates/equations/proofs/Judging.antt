@@ -19,10 +19,10 @@ use Rattle.equations.specs.Grounds.{refused-at, Judged, out-of-bounds}
 
 module _ {X R : Type 0} (P : R → Type 0) (whole : Bool) (allowed : X → Bool) (xs : List X) where
   pub judged-overall : whole ≡ false → Judged (refused-at whole allowed xs) P (Err Overall)
-  judged-overall e = rw e refl
+  judged-overall e = rw e (refl, refl)
 
   pub judged-entry : (i : ℕ) → whole ≡ true → leading allowed xs ≡ i → i < length xs → Judged (refused-at whole allowed xs) P (Err (Entry (i + 1)))
-  judged-entry i e l h = let t = lt-ltb i (length xs) h in rw (e, l, t) (ap out-of-bounds (add-one i))
+  judged-entry i e l h = let t = lt-ltb i (length xs) h in rw (e, l, t, add-one i) (refl, refl)
 
   pub judged-answer : (x : R) → whole ≡ true → leading allowed xs ≡ length xs → P x → Judged (refused-at whole allowed xs) P (Ok x)
   judged-answer x e l p = let t : ltb (length xs) (length xs) ≡ false = le-ltb (length xs) (length xs) (omega arith) in rw (e, l, t) p

@@ -1,14 +1,16 @@
--- The margin of deviations: their mean plus the root of their summed squared distances from it over n − 1, rounded to the nearest whole number, halves up. In whole numbers, of n deviations with the sum S and the sum of squares Q.
+-- The margin of deviations: their mean plus the root of their summed squared distances from it over n − 1, rounded to the
+-- nearest whole number, halves up. In whole numbers, of n deviations with the sum S and the sum of squares Q.
 use mathlib.Core.Logic.{_⊎_}
 use mathlib.Core.List.{List}
 use Prim.Native.Nat.{ℕ}
 use lib.ListN.{length}
 use lib.IntN.{ℤ, pos, _+ℤ_, _-ℤ_, _*ℤ_, negℤ}
-use lib.Signed.{_≤ℤ_, leZ, quotZ}
+use lib.Signed.{_≤ℤ_, quotZ}
 use lib.Dec.{leb}
 use mathlib.Core.Bool.{Bool, _&&_}
 use Rattle.std.specs.declared.option.Option.{Option}
 use Rattle.equations.specs.Sums.{total}
+use Rattle.equations.specs.Ranges.{between}
 use Rattle.equations.specs.Grounds.{refused-at}
 
 -- S and Q of a list of deviations
@@ -22,7 +24,7 @@ squares-of ds = total (λ d. d *ℤ d) ds
 abbrev pub spread : ℤ → ℤ → ℤ → ℤ
 spread n S Q = pos 4 *ℤ (n *ℤ Q -ℤ S *ℤ S)
 
--- V + V / (n − 1), rounded down: V is never below 0
+-- B = V + V / (n − 1), the quotient rounded down, since V is not below 0 for sums that are allowed
 abbrev pub square-bound : ℤ → ℤ → ℤ → ℤ
 square-bound n S Q = spread n S Q +ℤ quotZ (spread n S Q) (n -ℤ pos 1)
 
@@ -54,9 +56,11 @@ pub record Allowed-sums (n S Q : ℤ) : Type 0 where
   pub covered : (S *ℤ S) ≤ℤ (n *ℤ Q)
 
 -- ---- from deviations
+-- within ±2,000
 abbrev pub deviation-allowed : ℤ → Bool
-deviation-allowed d = leZ (negℤ (pos 2000)) d && leZ d (pos 2000)
+deviation-allowed d = between (negℤ (pos 2000)) d (pos 2000)
 
+-- 2 to 44,640
 abbrev pub count-allowed : ℕ → Bool
 count-allowed n = leb 2 n && leb n 44640
 
@@ -64,5 +68,6 @@ count-allowed n = leb 2 n && leb n 44640
 abbrev pub margin-refused : List ℤ → Option ℕ
 margin-refused ds = refused-at (count-allowed (length ds)) deviation-allowed ds
 
+-- t is the margin of these deviations
 abbrev pub Margin-of : List ℤ → ℤ → Type 0
 Margin-of ds t = Margin (pos (length ds)) (sum-of ds) (squares-of ds) t

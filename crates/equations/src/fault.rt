@@ -20,6 +20,7 @@ pub enum FigureFault {
 }
 
 impl FigureFault {
+    /// The number of the ground, the place and the period.
     pub fn told(&self) -> Told
         ensures { λ r. ⌜ r ≡ told (now (self .entry)) ⌝ }
     {

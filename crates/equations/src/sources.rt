@@ -7,7 +7,7 @@ ghost use lib.IntN.{pos};
 ghost use lib.Signed.{_≤ℤ_};
 ghost use Rattle.std.specs.shelf.Lists.{leading};
 ghost use Rattle.equations.specs.Grounds.{Judged, refused-at};
-ghost use Rattle.equations.specs.Reserves.{source-allowed, reserve-refused, powers, serving, coefficient, weighed, reserve-of};
+ghost use Rattle.equations.specs.Reserves.{source-allowed, reserve-refused, total-power, serving, coefficient, weighed, reserve-of};
 use crate::FigureFault;
 
 /// A source of reserve: its power P in MW, and its coefficients in hundredths, one for each row.
@@ -63,7 +63,7 @@ fn coefficient_of(source: &Source, row: Row) -> i32
 // The power of all sources; the first one out of its bounds is refused.
 fn total_power(sources: &[Source]) -> Result<i32, FigureFault>
     requires { ⌜ length (now sources) ≤ 8 ⌝ }
-    ensures { λ r. ⌜ Judged (refused-at true source-allowed (now (sources .entry))) (λ p. p ≡ powers (now (sources .entry))) r ⌝ }
+    ensures { λ r. ⌜ Judged (refused-at true source-allowed (now (sources .entry))) (λ p. p ≡ total-power (now (sources .entry))) r ⌝ }
 {
     let mut power: i32 = 0;
     for (i, source) in sources.iter().enumerate() {

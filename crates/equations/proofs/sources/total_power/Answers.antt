@@ -14,7 +14,7 @@ use Rattle.std.proofs.shelf.Signed.{ints, toZ-ofZ}
 use Rattle.std.proofs.shelf.Sums.{leading-drop-yes, leading-drop-no, leading-drop-all}
 use Rattle.std.specs.shelf.Lists.{leading}
 use Rattle.equations.specs.declared.sources.Source.{Source}
-use Rattle.equations.specs.Reserves.{source-allowed, powers}
+use Rattle.equations.specs.Reserves.{source-allowed, total-power}
 use Rattle.equations.proofs.Judging.{judged-entry, judged-answer}
 use Rattle.equations.proofs.Sourced.{blank, power-between}
 use Rattle.equations.proofs.Totals.{total-none, total-more}
@@ -30,7 +30,7 @@ returns-then-not-in-bounds c =
     let h : i < length ss = omega arith in
     let out : source-allowed (getD ss i blank) ≡ false = sym (c .in-bounds .ensures) ∙ c .if-not-in-bounds .taken in
     let l : leading source-allowed ss ≡ i = omega (arith, leading-drop-no source-allowed ss i blank h out) in
-    judged-entry (λ (p : ℤ). p ≡ powers ss) true source-allowed ss i refl l h
+    judged-entry (λ (p : ℤ). p ≡ total-power ss) true source-allowed ss i refl l h
 
 pub loop-i-again : need.loop-i-again
 loop-i-again c =
@@ -49,6 +49,6 @@ returns c =
     let ss : List Source = c .args .sources .now in
     let i : ℕ = c .loop-i .i in
     let all = take-all i ss (c .loop-i-test .left) in
-    let e = c .loop-i .inv .0 ∙ ap powers all in
+    let e = c .loop-i .inv .0 ∙ ap total-power all in
     let l : leading source-allowed ss ≡ length ss = omega (arith, leading-drop-all source-allowed ss i (c .loop-i-test .left)) in
-    judged-answer (λ (p : ℤ). p ≡ powers ss) true source-allowed ss _ refl l e
+    judged-answer (λ (p : ℤ). p ≡ total-power ss) true source-allowed ss _ refl l e
