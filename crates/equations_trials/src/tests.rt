@@ -9,8 +9,8 @@ use equations::fault::FigureFaultDebug as _;
 use equations::fault::FigureFaultPartialEq as _;
 use equations::margin;
 use equations::margin_of_sums;
-use equations::ntc;
 use equations::reserve;
+use equations::uncut_ntc;
 use std::test::*;
 
 // A sample: how many deviations, which stand at the odd places and which at the even ones, and what their margin is.
@@ -71,7 +71,7 @@ fn source(power: i32, row100: i32, row50: i32, row0: i32) -> Source {
     }
 }
 
-// The last source is like the others but for its power and its row 100.
+// How many sources like this one there are, under which down-regulation, and what their reserve is.
 #[test]
 fn reserves() -> Result<(), Fail> {
     let overall = FigureFault::Overall;
@@ -104,9 +104,9 @@ fn reserves() -> Result<(), Fail> {
     check_eq(reserve(&last_bad, 0), Err(FigureFault::Entry(3)))
 }
 
-// A line's capacities: uncut, cut, and what is available either way at a flow and a power flow.
+// Capacities: uncut and cut, and what is available of a line either way at a flow and a power flow.
 #[test]
-fn lines() -> Result<(), Fail> {
+fn capacities() -> Result<(), Fail> {
     let narrow = Side {
         first: 100,
         second: 50,
@@ -119,7 +119,7 @@ fn lines() -> Result<(), Fail> {
         margin: 60,
         reserve: 247,
     };
-    check_eq(ntc(Formula::Line, Direction::Forward, &narrow), -10)?;
+    check_eq(uncut_ntc(Formula::Line, Direction::Forward, &narrow), -10)?;
     check_eq(cut(-10), 0)?;
     let table = [
         (Direction::Forward, narrow, 0, 30, -30),

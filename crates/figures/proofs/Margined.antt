@@ -7,7 +7,7 @@ use Rattle.equations.specs.Sums.{total}
 use Rattle.equations.specs.Margins.{Margin-of, Reached}
 use Rattle.equations.specs.Capacities.{line-available}
 use Rattle.equations.proofs.Reaching.{last-reached}
-use Rattle.figures.specs.Worked.{Follow, rules, expected}
+use Rattle.figures.specs.Worked.{Given-by, rules, expected}
 
 pub margin-1 : Margin-of (pos 10 ∷ pos 20 ∷ pos 30 ∷ []) (pos 30)
 unfolding total
@@ -25,6 +25,6 @@ pub margin-4 : Margin-of (negℤ (pos 5) ∷ negℤ (pos 5) ∷ []) (negℤ (pos
 unfolding total
 margin-4 = last-reached (pos 2) _ _ (negℤ (pos 5)) (record { le = tt }) (inl (record { le = tt })) (⊎-elim (λ h. h .le) (λ h. h .le))
 
-pub figures-follow : Follow rules expected
+pub figures-follow : Given-by rules expected
 unfolding total line-available
 figures-follow = (margin-1, (margin-2, (margin-3, (margin-4, (refl, (refl, (refl, (refl, (refl, (refl, (refl, (refl, (refl, tt)))))))))))))

@@ -10,9 +10,11 @@ use Rattle.equations.specs.Capacities.{net-capacity, available}
 use Rattle.equations.specs.Margins.{Margin-of}
 use Rattle.equations.specs.Reserves.{reserve-of}
 
-abbrev pub both-sides : ℤ → ℤ → Side
-both-sides a b = record { first = a; second = b; margin = pos 0; reserve = pos 0 }
+-- the side of a sheet with two capacities and nothing else
+abbrev pub two-capacities : ℤ → ℤ → Side
+two-capacities a b = record { first = a; second = b; margin = pos 0; reserve = pos 0 }
 
+-- the side of the line's sheet
 abbrev pub line-side : Side
 line-side = record { first = pos 700; second = pos 1000; margin = pos 60; reserve = pos 247 }
 
@@ -29,10 +31,10 @@ rules =
     ∷ Margin-of (negℤ (pos 5) ∷ negℤ (pos 5) ∷ [])
     ∷ (λ x. x ≡ reserve-of (full-source (pos 100) (pos 62) ∷ full-source (pos 250) (pos 74) ∷ []) (pos 350))
     ∷ (λ x. x ≡ reserve-of (full-source (pos 101) (pos 62) ∷ []) (pos 101))
-    ∷ (λ x. x ≡ net-capacity (Settlement (pos 2)) Forward (both-sides (pos 500) (pos 500)))
-    ∷ (λ x. x ≡ net-capacity (Settlement (pos 1)) Forward (both-sides (pos 500) (pos 500)))
-    ∷ (λ x. x ≡ net-capacity (Settlement (pos 2)) Forward (both-sides (pos 49) (pos 500)))
-    ∷ (λ x. x ≡ net-capacity (Settlement (pos 2)) Forward (both-sides (pos 50) (pos 500)))
+    ∷ (λ x. x ≡ net-capacity (Settlement (pos 2)) Forward (two-capacities (pos 500) (pos 500)))
+    ∷ (λ x. x ≡ net-capacity (Settlement (pos 1)) Forward (two-capacities (pos 500) (pos 500)))
+    ∷ (λ x. x ≡ net-capacity (Settlement (pos 2)) Forward (two-capacities (pos 49) (pos 500)))
+    ∷ (λ x. x ≡ net-capacity (Settlement (pos 2)) Forward (two-capacities (pos 50) (pos 500)))
     ∷ (λ x. x ≡ net-capacity Line Forward line-side)
     ∷ (λ x. x ≡ available Line Forward line-side (pos 300) (pos 350))
     ∷ (λ x. x ≡ available Line Forward line-side (pos 300) (pos 200))
@@ -55,8 +57,8 @@ abbrev pub expected : List ℤ
 expected = expected-margins ++ (expected-reserves ++ (expected-settlements ++ expected-lines))
 
 -- each figure is what its rule gives, and there are no others
-abbrev pub Follow : List (ℤ → Type 0) → List ℤ → Type 0
-Follow [] [] = Unit {0}
-Follow [] (x ∷ xs) = ⊥
-Follow (rule ∷ more) [] = ⊥
-Follow (rule ∷ more) (x ∷ xs) = rule x × Follow more xs
+abbrev pub Given-by : List (ℤ → Type 0) → List ℤ → Type 0
+Given-by [] [] = Unit {0}
+Given-by [] (x ∷ xs) = ⊥
+Given-by (rule ∷ more) [] = ⊥
+Given-by (rule ∷ more) (x ∷ xs) = rule x × Given-by more xs

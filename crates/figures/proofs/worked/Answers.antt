@@ -7,5 +7,5 @@ returns c =
     let m = c .in-Continue-m1 .ensures tt in
     let r = c .in-Continue-r1 .ensures tt in
     let s = c .settlements .ensures in
-    let l = c .lines .ensures in
+    let l = c .line-figures .ensures in
     simp (m, r, s, l) (figures-follow, refl)
