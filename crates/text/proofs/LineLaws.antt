@@ -1,14 +1,16 @@
 -- Laws of `lines`, for `next_line` and for the crates above.
-use mathlib.Core.Path.{_≡_, _∙_, ap, refl}
-use mathlib.Core.List.{List, [], _∷_}
+use mathlib.Core.Path.{_≡_, _∙_, ap, refl, sym}
+use mathlib.Core.Logic.{inl, inr}
+use mathlib.Core.List.{List, [], _∷_, _++_}
 use Prim.Native.Nat.{ℕ, zero, suc, _+_, _≤_, _<_}
 use native.Mathlib.Numerals.{add-one}
 use native.Mathlib.Omega.{arith}
 use lib.Dec.{eqb}
 use lib.ListN.{length, getD, take, drop}
-use Rattle.std.proofs.shelf.Lists.{drop-drop}
-use Rattle.std.proofs.shelf.Tests.{cond-both, ne-eqb}
-use Rattle.text.specs.Lines.{begins, lines}
+use lib.Seq.{drop-cons, split-at}
+use Rattle.std.proofs.shelf.Lists.{drop-drop, drop-all, take-all, getD-take, length-take-le}
+use Rattle.std.proofs.shelf.Tests.{cases-lt, cond-both, ne-eqb}
+use Rattle.text.specs.Lines.{begins, lines, Line-cut}
 
 pub lines-nil : lines [] ≡ []
 unfolding lines
@@ -61,3 +63,18 @@ length-lines-le [] = omega arith
 length-lines-le (b ∷ bs) =
     let shorter = length-lines-le bs in
     cond-both (eqb b 10) ([] ∷ lines bs) (begins b (lines bs)) (λ ls. length ls ≤ suc (length bs)) (λ _. omega arith) (λ _. omega (arith, begins-length b (lines bs) .1))
+
+-- the parts of what is left, where a line of n bytes is cut off its front
+pub cut-parts : (bs line after behind : List ℕ) (n : ℕ) → n ≤ length bs → ((k : ℕ) → k < n → getD bs k 0 ≡ 10 → ⊥) → (n < length bs → getD bs n 0 ≡ 10) → line ≡ take n bs → after ≡ drop n bs → behind ≡ drop 1 after → Line-cut bs line behind
+cut-parts bs line after behind n within before stop front back next = record {
+  unbroken = λ k h e.
+    let below : k < n = omega (arith, ap length front, length-take-le n bs within) in
+    before k below (sym (getD-take n bs k 0 below) ∙ ap (λ l. getD l k 0) (sym front) ∙ e);
+  parts = elim (cases-lt n (length bs)) [
+      | inl h ↦ inl (split-at bs n 0 h ∙ same (stop h) (front) (next ∙ ap (drop 1) (back ∙ drop-cons bs n 0 h)))
+      | inr h ↦ inr (sym (front ∙ take-all n bs h), next ∙ ap (drop 1) (back ∙ drop-all n bs h))
+    ];
+}
+  where
+    same : {b : ℕ} {first rest : List ℕ} → b ≡ 10 → line ≡ first → behind ≡ rest → first ++ (b ∷ rest) ≡ line ++ (10 ∷ behind)
+    same e f g = cc

@@ -1,10 +1,11 @@
 -- The lines of a file.
 use mathlib.Core.Path.{_≡_}
 use mathlib.Core.Bool.{Bool, cond}
-use mathlib.Core.List.{List, [], _∷_}
-use Prim.Native.Nat.{ℕ}
+use mathlib.Core.List.{List, [], _∷_, _++_}
+use mathlib.Core.Logic.{_⊎_}
+use Prim.Native.Nat.{ℕ, _<_}
 use lib.Dec.{eqb, ltb}
-use lib.ListN.{length}
+use lib.ListN.{length, getD}
 use Rattle.std.specs.declared.option.Option.{Option}
 use Rattle.std.specs.declared.option.Option.the-variants.{Some, None}
 
@@ -26,3 +27,8 @@ too-long line = ltb 200 (length line)
 abbrev pub Next : List ℕ → Option (List ℕ) → List ℕ → Type 0
 Next left None after = (lines left ≡ []) × (after ≡ left)
 Next left (Some first) after = lines left ≡ first ∷ lines after
+
+-- how a line was cut off the front of what is left: it holds no byte 10, and what stands behind it is a byte 10 and the rest, or nothing
+pub record Line-cut (left first after : List ℕ) : Type 0 where
+  pub unbroken : (k : ℕ) → k < length first → getD first k 0 ≡ 10 → ⊥
+  pub parts : (left ≡ first ++ (10 ∷ after)) ⊎ ((left ≡ first) × (after ≡ []))

@@ -1,30 +1,32 @@
-// Cuts a file into its lines. Each line is a part of the file, so nothing is copied.
+//! Cuts a file into its lines. Each line is a part of the file, so nothing is copied.
 ghost use mathlib.Core.Path.{_≡_};
 ghost use Prim.Native.Nat.{ℕ, _<_, _≤_};
 ghost use lib.ListN.{length, getD};
 ghost use Rattle.std.specs.Options.{mapped};
-ghost use Rattle.text.specs.Lines.{Next, too-long};
+ghost use Rattle.std.specs.Slices.{found};
+ghost use Rattle.text.specs.Lines.{Next, Line-cut, too-long};
 
 // The most bytes that a line may have.
 const LONGEST: usize = 200;
 
-// The lines of a file that are still to be handed out.
+/// The lines of a file that are still to be handed out.
 #[derive(Drop)]
 pub struct Lines<'a> {
     rest: &'a [u8],
 }
 
 impl<'a> Lines<'a> {
-    // All lines of `file`.
+    /// All lines of `file`.
     pub fn new(file: &'a [u8]) -> Lines<'a>
         ensures { λ r. ⌜ now (r .rest) ≡ now (file .entry) ⌝ }
     {
         Lines { rest: file }
     }
 
-    // The next line, without the byte that ends it; none at the end of the file.
+    /// The next line, without the byte that ends it; none at the end of the file.
     pub fn next_line(&mut self) -> Option<&'a [u8]>
-        ensures { λ r. ⌜ Next (now (now (self .entry) .rest)) (mapped now r) (now (now (self .exit) .rest)) ⌝ }
+        ensures next { λ r. ⌜ Next (now (now (self .entry) .rest)) (mapped now r) (now (now (self .exit) .rest)) ⌝ }
+        ensures part { λ r. ⌜ found (mapped now r) (λ line. Line-cut (now (now (self .entry) .rest)) line (now (now (self .exit) .rest))) ⌝ }
     {
         let rest = self.rest;
         if rest.is_empty() {
@@ -51,7 +53,7 @@ fn line_end(bytes: &[u8]) -> usize
     bytes.len()
 }
 
-// Whether `line` has more bytes than a line may have.
+/// Whether `line` has more bytes than a line may have.
 pub fn too_long(line: &[u8]) -> bool
     ensures { λ r. ⌜ r ≡ too-long (now (line .entry)) ⌝ }
 {

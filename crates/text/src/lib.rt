@@ -1,4 +1,4 @@
-// What the file formats share: the lines of a file, and numbers in their one written form.
+//! What the file formats share: the lines of a file, and numbers in their one written form.
 mod cut;
 mod read;
 

@@ -1,4 +1,4 @@
-// Reads a number in its one written form.
+//! Reads a number in its one written form.
 ghost use mathlib.Core.Path.{_≡_};
 ghost use Prim.Native.Nat.{ℕ, _≤_};
 ghost use lib.IntN.{ℤ};
@@ -12,7 +12,7 @@ const LARGEST: u32 = 1_000_000;
 // How many digits the largest number has.
 const MOST_DIGITS: usize = 7;
 
-// The number that `field` writes, if it writes one: no `+`, no leading zero, no `-0`, and nothing past the largest number.
+/// The number within ±1,000,000 that `field` writes, if it writes one: no `+`, no leading zero, no `-0`, and nothing past the largest number.
 pub fn number(field: &[u8]) -> Option<i32>
     ensures { λ r. ⌜ Cases r ((n : ℤ) → Writes (now (field .entry)) n → ⊥) (λ n. Writes (now (field .entry)) n) ⌝ }
 {

@@ -6,13 +6,13 @@ use borrow.Author.Needs.{needs}
 use lib.ListN.{drop, length}
 use Rattle.std.proofs.shelf.Lists.{drop-all, nil-from-length, take-rest}
 use Rattle.std.proofs.shelf.Tests.{eqb-false, eqb-true}
-use Rattle.text.proofs.LineLaws.{lines-cut, lines-nil}
+use Rattle.text.proofs.LineLaws.{cut-parts, lines-cut, lines-nil}
 use Rattle.text.specs.Lines.{lines}
 use Rattle.text.proofs.cut.Lines.next_line.Needs as need
 use Rattle.text.proofs.cut.Lines.next_line.Needs.{then-is-empty-2, else-is-empty-2}
 
 pub returns-then-is-empty : need.returns-then-is-empty
-returns-then-is-empty c = (ap lines (nil-from-length _ (eqb-true _ 0 (sym (c .if-is-empty .ensures tt)))) ∙ lines-nil, refl)
+returns-then-is-empty c = record { next = (ap lines (nil-from-length _ (eqb-true _ 0 (sym (c .if-is-empty .ensures tt)))) ∙ lines-nil, refl); part = tt }
 
 pub returns : need.returns
 returns c =
@@ -28,4 +28,5 @@ returns c =
     ] in
     let end = c .line-end-end .ensures in
     let cut = lines-cut bytes _ after _ (c .line-end-end .result) some (end .within) (end .before) (end .found) (c .split-at .ensures .front) (c .split-at .ensures .back) behind in
+    let part = cut-parts bytes _ after _ (c .line-end-end .result) (end .within) (end .before) (end .found) (c .split-at .ensures .front) (c .split-at .ensures .back) behind in
     search needs
