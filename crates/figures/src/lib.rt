@@ -45,7 +45,10 @@ fn reserves() -> Result<[i64; 2], FigureFault>
 {
     let both = [full_source(100, 62), full_source(250, 74)];
     let one = [full_source(101, 62)];
-    Ok([i64::from(reserve(&both, 350)?), i64::from(reserve(&one, 101)?)])
+    Ok([
+        i64::from(reserve(&both, 350)?),
+        i64::from(reserve(&one, 101)?),
+    ])
 }
 
 // The side of a sheet with two capacities and nothing else.

@@ -68,12 +68,12 @@ length-lines-le (b ∷ bs) =
 pub cut-parts : (bs line after behind : List ℕ) (n : ℕ) → n ≤ length bs → ((k : ℕ) → k < n → getD bs k 0 ≡ 10 → ⊥) → (n < length bs → getD bs n 0 ≡ 10) → line ≡ take n bs → after ≡ drop n bs → behind ≡ drop 1 after → Line-cut bs line behind
 cut-parts bs line after behind n within before stop front back next = record {
   unbroken = λ k h e.
-    let below : k < n = omega (arith, ap length front, length-take-le n bs within) in
-    before k below (sym (getD-take n bs k 0 below) ∙ ap (λ l. getD l k 0) (sym front) ∙ e);
+      let below : k < n = omega (arith, ap length front, length-take-le n bs within) in
+      before k below (sym (getD-take n bs k 0 below) ∙ ap (λ l. getD l k 0) (sym front) ∙ e);
   parts = elim (cases-lt n (length bs)) [
-      | inl h ↦ inl (split-at bs n 0 h ∙ same (stop h) (front) (next ∙ ap (drop 1) (back ∙ drop-cons bs n 0 h)))
-      | inr h ↦ inr (sym (front ∙ take-all n bs h), next ∙ ap (drop 1) (back ∙ drop-all n bs h))
-    ];
+    | inl h ↦ inl (split-at bs n 0 h ∙ same (stop h) (front) (next ∙ ap (drop 1) (back ∙ drop-cons bs n 0 h)))
+    | inr h ↦ inr (sym (front ∙ take-all n bs h), next ∙ ap (drop 1) (back ∙ drop-all n bs h))
+  ];
 }
   where
     same : {b : ℕ} {first rest : List ℕ} → b ≡ 10 → line ≡ first → behind ≡ rest → first ++ (b ∷ rest) ≡ line ++ (10 ∷ behind)

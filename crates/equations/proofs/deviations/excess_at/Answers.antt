@@ -28,7 +28,8 @@ fitting count sum t d hc hs ht e =
       scaled = near-fits (d *ℤ count) (20001 * 44640) (lit< tt) p;
       doubled = omega (arith, ints);
       whole = near-fits (d *ℤ count -ℤ pos 2 *ℤ sum) 2000000000 (lit< tt) n;
-      near = n }
+      near = n;
+    }
   where
     between : (x y : ℤ) → Near (20001 * 44640) x → Near 100000000 y → Near 2000000000 (x -ℤ pos 2 *ℤ y)
     between x y hx hy = (omega (arith, ints), omega (arith, ints))

@@ -33,8 +33,11 @@ record Askable (n S t : ℤ) : Type 0 where
 
 askable : (n S m : ℤ) (low width : ℕ) → pos 2 ≤ℤ n → n ≤ℤ pos 44640 → negℤ (pos 2000 *ℤ n) ≤ℤ S → S ≤ℤ (pos 2000 *ℤ n) → m ≡ pos (low + width / 2) → low + width ≤ 8192 → Askable n S (m -ℤ pos 2000)
 askable n S m low width few many least most e h = record {
-    count = (omega (arith, ints), many); sum = (omega (arith, ints), omega (arith, ints));
-    middle = (omega (arith, ints), omega (arith, ints)); fits = omega (arith, ints) }
+  count = (omega (arith, ints), many);
+  sum = (omega (arith, ints), omega (arith, ints));
+  middle = (omega (arith, ints), omega (arith, ints));
+  fits = omega (arith, ints);
+}
 
 asked : (c : need.After-from) → Askable (c .args .count) (c .args .sum) (c .from .result -ℤ pos 2000)
 asked c = askable (c .args .count) (c .args .sum) (c .from .result) (c .loop-width .low) (c .loop-width .width) (c .pre .count .0) (c .pre .count .1) (c .pre .sum .0) (c .pre .sum .1) (c .from .ensures) (c .loop-width .inv .3)

@@ -1,0 +1,4 @@
+pub mod Faults
+pub mod Samples
+pub mod Texts
+pub mod Cuts
