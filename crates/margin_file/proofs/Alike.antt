@@ -1,9 +1,9 @@
 -- Lists of lines that are the same up to a line of more than 200 bytes have the same answers.
 use mathlib.Core.Path.{_≡_, _∙_, ap, refl, sym}
-use mathlib.Core.Bool.{Bool, true}
+use mathlib.Core.Bool.{true}
 use mathlib.Core.List.{List, [], _∷_}
 use mathlib.Core.Logic.{_⊎_, inl, inr}
-use Prim.Native.Nat.{ℕ, suc, _≤_, _<_}
+use Prim.Native.Nat.{ℕ, suc, _<_}
 use native.Mathlib.Omega.{arith}
 use lib.IntN.{ℤ, pos}
 use lib.ListN.{length, take, getD}
@@ -13,7 +13,7 @@ use Rattle.margin_file.specs.declared.sample.Sample.{Sample}
 use Rattle.margin_file.specs.Faults.{no-number, told-at}
 use Rattle.margin_file.specs.Samples.{Written, First-unreadable, Fault-of, Answer}
 use Rattle.std.proofs.shelf.Lists.{getD-take, length-take, take-take}
-use Rattle.std.proofs.shelf.Tests.{cases-lt, cases-order, lt-ltb}
+use Rattle.std.proofs.shelf.Tests.{cases-order, lt-ltb}
 use Rattle.std.specs.declared.option.Option.the-variants.{Some}
 use Rattle.std.specs.declared.result.Result.{Result}
 use Rattle.std.specs.declared.result.Result.the-variants.{Ok, Err}

@@ -2,7 +2,7 @@
 use mathlib.Core.Path.{_≡_, _∙_, ap, refl, sym}
 use mathlib.Core.List.{List, [], _∷_}
 use mathlib.Core.Logic.{inl, inr}
-use Prim.Native.Nat.{ℕ, zero, suc, _+_, _-_, _*_, _≤_, _<_, min}
+use Prim.Native.Nat.{ℕ, zero, suc, _+_, _-_, _*_, _≤_, _<_}
 use native.Mathlib.Omega.{arith}
 use lib.Dec.{lit≤}
 use lib.ListN.{length, take, drop, getD}
@@ -14,7 +14,7 @@ use Rattle.margin_file.proofs.Alike.{Alike, alike-cons, alike-long, alike-turn
 use Rattle.std.proofs.shelf.Lists.{drop-take, getD-take, length-take, length-take-le, take-take}
 use Rattle.std.proofs.shelf.Tests.{cases-eq, cases-lt}
 use Rattle.std.specs.declared.result.Result.{Result}
-use Rattle.text.proofs.LineLaws.{lines-first, lines-nil}
+use Rattle.text.proofs.LineLaws.{lines-first}
 use Rattle.text.specs.Lines.{lines}
 
 -- the first line has n bytes
@@ -61,7 +61,7 @@ drop-cut bs n cut h =
     let e : cut ≡ suc n + (cut - suc n) = omega arith in
     ap (λ c. drop (suc n) (take c bs)) e ∙ drop-take (suc n) (cut - suc n) bs
 
--- what m lines more, after the first, of the file and of the cut file are
+-- the first line of a file and of the cut file, which has room for m lines more
 module _ (m cut : ℕ) (bs : List ℕ) (n : ℕ) (some : 0 < length bs) (room : 201 * suc m ≤ cut) (e : Ends bs n) where
   cut-some : 0 < length (take cut bs)
   cut-some = simp length-take (omega arith)

@@ -1,5 +1,5 @@
 -- How far the lines of a file were read.
-use mathlib.Core.Path.{_≡_, _∙_, ap, refl, sym, subst}
+use mathlib.Core.Path.{_≡_, _∙_, ap, refl, sym}
 use mathlib.Core.List.{List, [], _∷_, _++_}
 use mathlib.Core.Logic.{inl, inr}
 use mathlib.Core.Bool.{Bool}
@@ -8,9 +8,10 @@ use native.Mathlib.Nat.{add-zero}
 use native.Mathlib.Omega.{arith}
 use lib.IntN.{ℤ, pos}
 use lib.ListN.{length, take, drop, getD}
-use Rattle.margin_file.specs.declared.fault.SampleFault.the-variants.{Unreadable}
+use Rattle.margin_file.specs.declared.fault.SampleFault.{SampleFault}
+use Rattle.margin_file.specs.declared.fault.SampleFault.the-variants.{Unreadable, Refused, Memory}
 use Rattle.margin_file.specs.Faults.{no-number, told-at}
-use Rattle.margin_file.specs.Samples.{read-lines, Written, Unreadable-line, First-unreadable, Fault-of}
+use Rattle.margin_file.specs.Samples.{read-lines, Written, Added, Line-fault, Unreadable-line, First-unreadable, Fault-of}
 use Rattle.std.specs.declared.option.Option.the-variants.{Some}
 use Rattle.text.specs.Lines.{lines, too-long}
 use Rattle.std.proofs.shelf.Lists.{getD-append-left, getD-drop, drop-drop, getD-push, getD-take, length-drop, length-push, length-take, take-all, take-more, take-take}
@@ -22,10 +23,7 @@ pub record Read (all rest : List (List ℕ)) (ds : List ℤ) (n : ℕ) : Type 0 
   pub written : Written (take n all) ds
   pub ahead : drop n all ≡ rest
 
-pub written-none : Written [] []
-written-none = record { as-many = refl; each = λ k h. absurd (omega arith) }
-
-pub written-push : (ls : List (List ℕ)) (ds : List ℤ) (l : List ℕ) (d : ℤ) → Written ls ds → Writes l d → Written (ls ++ l ∷ []) (ds ++ d ∷ [])
+written-push : (ls : List (List ℕ)) (ds : List ℤ) (l : List ℕ) (d : ℤ) → Written ls ds → Writes l d → Written (ls ++ l ∷ []) (ds ++ d ∷ [])
 written-push ls ds l d w here = record {
   as-many = omega (arith, length-push ls l, length-push ds d, w .as-many);
   each = λ k h. elim (cases-lt k (length ls)) [
@@ -51,10 +49,7 @@ next-is all rest l n e = rw (← add-zero n, ← getD-drop n all 0 []) (ap (λ l
 next-drop : (all rest : List (List ℕ)) (l : List ℕ) (n : ℕ) → drop n all ≡ l ∷ rest → drop (n + 1) all ≡ rest
 next-drop all rest l n e = sym (drop-drop 1 n all) ∙ ap (drop 1) e
 
-pub read-none : (all : List (List ℕ)) → Read all all [] 0
-read-none all = record { written = written-none; ahead = refl }
-
-pub read-more : (all rest : List (List ℕ)) (ds : List ℤ) (n : ℕ) (l : List ℕ) (d : ℤ) → Read all (l ∷ rest) ds n → Writes l d → Read all rest (ds ++ d ∷ []) (n + 1)
+read-more : (all rest : List (List ℕ)) (ds : List ℤ) (n : ℕ) (l : List ℕ) (d : ℤ) → Read all (l ∷ rest) ds n → Writes l d → Read all rest (ds ++ d ∷ []) (n + 1)
 read-more all rest ds n l d r here = record {
   written =
       let e : take (n + 1) all ≡ take n all ++ l ∷ [] =
@@ -64,8 +59,8 @@ read-more all rest ds n l d r here = record {
 }
 
 -- a turn of the loop, at the line with the number `at`
-pub read-turn : (all rest after : List (List ℕ)) (ds es : List ℤ) (at : ℕ) (l : List ℕ) (d : ℤ) → 1 ≤ at → Read all rest ds (at - 1) → rest ≡ l ∷ after → Writes l d → es ≡ ds ++ d ∷ [] → Read all after es (at + 1 - 1)
-read-turn all rest after ds es at l d from r e here more =
+pub read-turn : (all rest after : List (List ℕ)) (ds es : List ℤ) (at : ℕ) (l : List ℕ) → 1 ≤ at → Read all rest ds (at - 1) → rest ≡ l ∷ after → Added ds l es → Read all after es (at + 1 - 1)
+read-turn all rest after ds es at l from r e (d, here, more) =
     let n : at + 1 - 1 ≡ (at - 1) + 1 = omega arith in
     rw (more, n) (read-more all after ds (at - 1) l d (rw e at r) here)
 
@@ -100,7 +95,9 @@ told-same at over l m from size same =
     let n : suc (at - 1) ≡ at = omega arith in
     rw (n, size, same) refl
 
-pub read-refused : (content : List ℕ) (rest after : List (List ℕ)) (ds : List ℤ) (at : ℕ) (l : List ℕ) (over : Bool) → 1 ≤ at → at ≤ 100000 → Read (lines content) rest ds (at - 1) → rest ≡ l ∷ after → Unreadable-line l → over ≡ too-long l → Fault-of (read-lines content) (Unreadable at over)
-read-refused content rest after ds at l over from to r e bad size =
+pub read-refused : (content : List ℕ) (rest after : List (List ℕ)) (ds : List ℤ) (at : ℕ) (l : List ℕ) (e : SampleFault) → 1 ≤ at → at ≤ 100000 → Read (lines content) rest ds (at - 1) → rest ≡ l ∷ after → Line-fault at l e → Fault-of (read-lines content) e
+read-refused content rest after ds at l (Unreadable n over) from to r e (bad, is, size) =
     let first = refused-first (lines content) rest after ds at 100000 l from to r e bad in
-    (at - 1, first .0, told-same at over l _ from size (first .1))
+    (at - 1, first .0, ap (λ k. Some (told-at k (no-number over))) is ∙ told-same at over l _ from size (first .1))
+read-refused content rest after ds at l (Refused f) from to r e none = absurd none
+read-refused content rest after ds at l Memory from to r e any = tt

@@ -1,6 +1,5 @@
 -- What a fault tells of a file.
 use mathlib.Core.Bool.{Bool, cond}
-use mathlib.Core.List.{List}
 use Prim.Native.Nat.{ℕ}
 use lib.IntN.{pos}
 use Rattle.equations.specs.declared.fault.FigureFault.{FigureFault}

@@ -1,6 +1,6 @@
 -- The deviations of a file, and the answer to it.
 use mathlib.Core.Path.{_≡_}
-use mathlib.Core.List.{List, []}
+use mathlib.Core.List.{List, [], _∷_, _++_}
 use Prim.Native.Nat.{ℕ, suc, _<_}
 use lib.IntN.{ℤ, pos}
 use lib.ListN.{length, take, getD}
@@ -34,6 +34,16 @@ pub record First-unreadable (ls : List (List ℕ)) (k : ℕ) : Type 0 where
   pub within : k < length ls
   pub earlier : (ds : List ℤ) × Written (take k ls) ds
   pub unreadable : Unreadable-line (getD ls k [])
+
+-- the deviation that the line l writes is added to those before it
+abbrev pub Added : List ℤ → List ℕ → List ℤ → Type 0
+Added ds l es = (d : ℤ) × Writes l d × (es ≡ ds ++ (d ∷ []))
+
+-- why the deviation of the line l, with the number n, was not added
+abbrev pub Line-fault : ℕ → List ℕ → SampleFault → Type 0
+Line-fault n l (Unreadable at-line over) = Unreadable-line l × (at-line ≡ n) × (over ≡ too-long l)
+Line-fault n l (Refused e) = ⊥
+Line-fault n l Memory = Unit {0}
 
 -- the lines write deviations for which P holds
 abbrev pub Deviations : List (List ℕ) → (List ℤ → Type 0) → Type 0

@@ -1,8 +1,7 @@
 //! Reads the deviations of a file and judges them.
-ghost use mathlib.Core.Path.{_≡_};
 ghost use Rattle.std.specs.Of.Vec.{vec-items};
 ghost use Rattle.std.specs.Results.{Cases};
-ghost use Rattle.margin_file.specs.Samples.{read-lines, Written, Answer, Fault-of};
+ghost use Rattle.margin_file.specs.Samples.{read-lines, Written, Added, Line-fault, Answer, Fault-of};
 ghost use Rattle.margin_file.specs.Texts.{sample-text};
 ghost use Rattle.std.specs.declared.option.Option.the-variants.{Some as Known};
 use crate::SampleFault;
@@ -35,7 +34,21 @@ pub impl fmt::Display for Sample as SampleDisplay {
     }
 }
 
-// The deviations that the lines write, up to the first line that writes none.
+// Adds the deviation that a line writes; a line that writes none is refused.
+fn add_line(deviations: &mut Vec<i32>, line: u32, bytes: &[u8]) -> Result<(), SampleFault>
+    ensures { λ r. ⌜ Cases r (λ _. Added (vec-items (now (deviations .entry))) (now (bytes .entry)) (vec-items (now (deviations .exit)))) (λ e. Line-fault line (now (bytes .entry)) e) ⌝ }
+{
+    match number(bytes) {
+        Some(deviation) => deviations.push(deviation)?,
+        None => {
+            let long = too_long(bytes);
+            return Err(SampleFault::Unreadable { line, long });
+        }
+    }
+    Ok(())
+}
+
+// The deviations that the lines write; the first line that writes none is refused.
 fn read_deviations(heap: Global, file: &[u8]) -> Result<Vec<i32>, SampleFault>
     ensures { λ r. ⌜ Cases r (λ v. Written (read-lines (now (file .entry))) (vec-items v)) (λ e. Fault-of (read-lines (now (file .entry))) e) ⌝ }
 {
@@ -45,13 +58,7 @@ fn read_deviations(heap: Global, file: &[u8]) -> Result<Vec<i32>, SampleFault>
         let Some(bytes) = lines.next_line() else {
             break;
         };
-        match number(bytes) {
-            Some(deviation) => deviations.push(deviation)?,
-            None => {
-                let long = too_long(bytes);
-                return Err(SampleFault::Unreadable { line, long });
-            }
-        }
+        add_line(&mut deviations, line, bytes)?;
     }
     Ok(deviations)
 }

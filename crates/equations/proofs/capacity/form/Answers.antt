@@ -68,7 +68,7 @@ returns-in-Line c =
     let s3 = k .2 in
     let fm : SFits w64 (c .min-in-Line .result) = record { sfits = c .min-in-Line .ok } in
     let v = simp toZ-ofZ at (c .min-in-Line .ensures .value) in
-    let e : c .min-in-Line .result ≡ minZ (t .first +ℤ t .reserve -ℤ t .margin) (t .second -ℤ t .margin) = cc in
+    let e : c .min-in-Line .result ≡ minZ (t .first +ℤ t .reserve -ℤ t .margin) (t .second -ℤ t .margin) = simp (e1, e2, e3, e4) at v in
     rw (c .in-Line .is, toZ-ofZ w64 (c .min-in-Line .result) fm) record { value = e; near = rw e (line-small (t .first) (t .second) (t .margin) (t .reserve) f1 f2 f3 f4) }
 
 pub returns-in-Given : need.returns-in-Given
