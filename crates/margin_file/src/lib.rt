@@ -16,6 +16,3 @@ pub use line::answer;
 pub use sample::Sample;
 pub use sample::SampleDisplay;
 pub use sample::judge;
-
-#[cfg(test)]
-mod tests;

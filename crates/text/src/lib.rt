@@ -5,6 +5,3 @@ mod read;
 pub use cut::Lines;
 pub use cut::too_long;
 pub use read::number;
-
-#[cfg(test)]
-mod tests;

@@ -1,5 +1,5 @@
 // Files and the lines that answer them.
-use super::*;
+use margin_file::answer;
 use std::test::*;
 
 #[test]

@@ -1,6 +1,7 @@
-// Examples, as tables of inputs and answers.
-use super::*;
 use std::test::*;
+use text::Lines;
+use text::number;
+use text::too_long;
 
 #[test]
 fn reads_numbers() -> Result<(), Fail> {
