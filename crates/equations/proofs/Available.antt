@@ -6,12 +6,12 @@ use native.Mathlib.Omega.{arith}
 use lib.IntN.{ℤ, pos, _+ℤ_, _-ℤ_}
 use lib.Signed.{_≤ℤ_, _<ℤ_, ltZ}
 use lib.Dec.{lit<}
-use mathlib.Core.Bool.{true, false, cond}
+use mathlib.Core.Bool.{Bool, true, false, cond}
 use mir.Syntax.{w32, w64}
 use mir.Val.{SFits}
 use Rattle.std.specs.Numbers.{minZ}
 use Rattle.std.proofs.shelf.Signed.{ints, clamps}
-use Rattle.equations.specs.Ranges.{between, Small}
+use Rattle.equations.specs.Ranges.{between, Near, Small}
 use Rattle.equations.specs.Capacities.{available, line-available, net-capacity, counted, settled-capacity, circuit-cap}
 use Rattle.equations.specs.declared.capacity.Side.{Side}
 use Rattle.equations.specs.declared.capacity.Direction.{Direction}
@@ -72,3 +72,19 @@ plain-available Given to s a p h = refl
 plain-available Line to s a p (inl e) = let z : _≡_ {A = ℕ} 0 1 = cc in absurd (omega arith)
 plain-available Line to s a p (inr (inl e)) = let k = e .1 in let z : _≡_ {A = ℕ} 0 1 = cc in absurd (omega arith)
 plain-available Line to s a p (inr (inr e)) = let z : _≡_ {A = ℕ} 0 1 = cc in absurd (omega arith)
+
+-- a difference of two that are small
+pub less-near : (x y : ℤ) → Small x → Small y → SFits w64 (x -ℤ y) × Near 4000000000000 (x -ℤ y)
+less-near x y hx hy = (omega (arith, ints), (omega (arith, ints), omega (arith, ints)))
+
+pub line-near : (c m a p : ℤ) → Small c → Small m → Small a → Small p → Near 4000000000000 (line-available c m a p)
+unfolding line-available
+line-near c m a p hc hm ha hp = by-way (ltZ (pos 0) a)
+  where
+    by-way : (t : Bool) → Near 4000000000000 (cond t (minZ (c -ℤ p) (c -ℤ a +ℤ m)) (c -ℤ p))
+    by-way true = (omega (arith, ints, clamps), omega (arith, ints, clamps))
+    by-way false = (omega (arith, ints), omega (arith, ints))
+
+-- a limit is the flow and a capacity that is near
+pub limit-fits : (a x : ℤ) → SFits w32 a → Near 4000000000000 x → SFits w64 (a +ℤ x) × SFits w64 (a -ℤ x)
+limit-fits a x ha hx = (omega (arith, ints), omega (arith, ints))

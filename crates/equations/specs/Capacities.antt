@@ -49,3 +49,8 @@ available Cable to s a p = net-capacity Cable to s -ℤ counted to a
 available (Settlement n) to s a p = net-capacity (Settlement n) to s -ℤ counted to a
 available Line to s a p = line-available (net-capacity Line to s) (s .margin) (counted to a) (counted to p)
 available Given to s a p = net-capacity Given to s -ℤ counted to a
+
+-- the limit that a flow a and its available capacity give in a direction: forward above a, backward below it
+abbrev pub limit-of : Formula → Direction → Side → ℤ → ℤ → ℤ
+limit-of f Forward s a p = a +ℤ available f Forward s a p
+limit-of f Backward s a p = a -ℤ available f Backward s a p

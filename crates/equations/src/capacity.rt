@@ -1,7 +1,7 @@
 //! Net and available capacities (NTC and ATC) of the four kinds of border, in one direction.
 ghost use mathlib.Core.Path.{_≡_};
-ghost use Rattle.equations.specs.Ranges.{Small};
-ghost use Rattle.equations.specs.Capacities.{counted, settled-capacity, circuit-cap, uncut-capacity, cut-at-0, net-capacity, line-available, available};
+ghost use Rattle.equations.specs.Ranges.{Near, Small};
+ghost use Rattle.equations.specs.Capacities.{counted, settled-capacity, circuit-cap, uncut-capacity, cut-at-0, net-capacity, line-available, available, limit-of};
 
 /// A direction over a border: forward is from the parent zone to the border's own zone.
 #[derive(Clone, Copy)]
@@ -100,7 +100,8 @@ fn net(formula: Formula, direction: Direction, side: &Side) -> i64
 // What of a line's net capacity is left in a direction, with flow and power flow counted in it.
 fn line_left(capacity: i64, margin: i64, flow: i64, power_flow: i64) -> i64
     requires { ⌜ Small capacity × Small margin × Small flow × Small «power_flow» ⌝ }
-    ensures { λ r. ⌜ r ≡ line-available capacity margin flow «power_flow» ⌝ }
+    ensures value { λ r. ⌜ r ≡ line-available capacity margin flow «power_flow» ⌝ }
+    ensures near { λ r. ⌜ Near 4000000000000 r ⌝ }
 {
     let left = capacity - power_flow;
     if flow > 0 {
@@ -110,9 +111,10 @@ fn line_left(capacity: i64, margin: i64, flow: i64, power_flow: i64) -> i64
     }
 }
 
-/// The available capacity in a direction, at a flow and a power flow that are given forward. It may be below 0.
-pub fn atc(formula: Formula, direction: Direction, side: &Side, flow: i32, power_flow: i32) -> i64
-    ensures { λ r. ⌜ r ≡ available formula direction (now (side .entry)) flow «power_flow» ⌝ }
+// What of the net capacity is left in a direction.
+fn left(formula: Formula, direction: Direction, side: &Side, flow: i32, power_flow: i32) -> i64
+    ensures value { λ r. ⌜ r ≡ available formula direction (now (side .entry)) flow «power_flow» ⌝ }
+    ensures near { λ r. ⌜ Near 4000000000000 r ⌝ }
 {
     let capacity = net(formula, direction, side);
     let flow = count_in(direction, flow);
@@ -124,5 +126,23 @@ pub fn atc(formula: Formula, direction: Direction, side: &Side, flow: i32, power
             count_in(direction, power_flow),
         ),
         Formula::Cable | Formula::Settlement(_) | Formula::Given => capacity - flow,
+    }
+}
+
+/// The available capacity in a direction, at a flow and a power flow that are given forward. It may be below 0.
+pub fn atc(formula: Formula, direction: Direction, side: &Side, flow: i32, power_flow: i32) -> i64
+    ensures { λ r. ⌜ r ≡ available formula direction (now (side .entry)) flow «power_flow» ⌝ }
+{
+    left(formula, direction, side, flow, power_flow)
+}
+
+/// The limit in a direction: the flow and, forward, its available capacity more, backward, its available capacity less.
+pub fn limit(formula: Formula, direction: Direction, side: &Side, flow: i32, power_flow: i32) -> i64
+    ensures { λ r. ⌜ r ≡ limit-of formula direction (now (side .entry)) flow «power_flow» ⌝ }
+{
+    let available = left(formula, direction, side, flow, power_flow);
+    match direction {
+        Direction::Forward => i64::from(flow) + available,
+        Direction::Backward => i64::from(flow) - available,
     }
 }

@@ -9,6 +9,7 @@ pub use capacity::Formula;
 pub use capacity::Side;
 pub use capacity::atc;
 pub use capacity::cut;
+pub use capacity::limit;
 pub use capacity::uncut_ntc;
 pub use deviations::margin;
 pub use deviations::margin_of_sums;

@@ -6,7 +6,7 @@ use mathlib.Core.Bool.{true, false}
 use mir.Syntax.{w64}
 use mir.Val.{SFits}
 use Rattle.std.proofs.shelf.Signed.{ints, toZ-ofZ}
-use Rattle.equations.proofs.Available.{with-the-flow, against-the-flow, lefts-fit}
+use Rattle.equations.proofs.Available.{with-the-flow, against-the-flow, lefts-fit, line-near}
 use Rattle.equations.proofs.capacity.line_left.Needs as need
 
 positive : (a : ℤ) → ltZ (pos 0) a ≡ true → pos 0 <ℤ a
@@ -27,7 +27,9 @@ returns-then-flow-gt0 c =
     let s3 = k .2 in
     let fm : SFits w64 (c .min .result) = record { sfits = c .min .ok } in
     let v = simp toZ-ofZ at (c .min .ensures .value) in
-    toZ-ofZ w64 (c .min .result) fm ∙ v ∙ sym (with-the-flow (c .args .capacity) (c .args .margin) (c .args .flow) (c .args .power-flow) (positive (c .args .flow) (simp toZ-ofZ at (c .if-flow-gt0 .taken))))
+    let near = line-near (c .args .capacity) (c .args .margin) (c .args .flow) (c .args .power-flow) (c .pre .0) (c .pre .1) (c .pre .2) (c .pre .3) in
+    let e = v ∙ sym (with-the-flow (c .args .capacity) (c .args .margin) (c .args .flow) (c .args .power-flow) (positive (c .args .flow) (simp toZ-ofZ at (c .if-flow-gt0 .taken)))) in
+    simp toZ-ofZ record { value = e; near = rw e near }
 
 pub returns-else-flow-gt0 : need.returns-else-flow-gt0
 returns-else-flow-gt0 c =
@@ -35,4 +37,6 @@ returns-else-flow-gt0 c =
     let f3 = c .fits .flow in
     let f4 = c .fits .power-flow in
     let s1 = lefts-fit (c .args .capacity) (c .args .margin) (c .args .flow) (c .args .power-flow) (c .pre .0) (c .pre .1) (c .pre .2) (c .pre .3) .0 in
-    simp toZ-ofZ (sym (against-the-flow (c .args .capacity) (c .args .margin) (c .args .flow) (c .args .power-flow) (not-positive (c .args .flow) (simp toZ-ofZ at (c .if-flow-gt0 .left)))))
+    let near = line-near (c .args .capacity) (c .args .margin) (c .args .flow) (c .args .power-flow) (c .pre .0) (c .pre .1) (c .pre .2) (c .pre .3) in
+    let e = sym (against-the-flow (c .args .capacity) (c .args .margin) (c .args .flow) (c .args .power-flow) (not-positive (c .args .flow) (simp toZ-ofZ at (c .if-flow-gt0 .left)))) in
+    simp toZ-ofZ record { value = e; near = rw e near }

@@ -1,0 +1,4 @@
+pub mod Days
+pub mod Takes
+pub mod Ramps
+pub mod Eased

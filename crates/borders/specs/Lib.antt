@@ -1,0 +1,5 @@
+pub mod Day
+pub mod Limits
+pub mod Border
+pub mod Laws
+pub mod Answers

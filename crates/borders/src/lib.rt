@@ -1,0 +1,25 @@
+//! Borders: one interface with a meaning and laws, the ramp over any border, and the bank that holds borders of different makes.
+pub mod border;
+pub mod ramp;
+
+use equations::Side;
+
+pub use border::Border;
+pub use ramp::Ramp;
+
+/// A sheet for one border and period: the figures of each direction, the power flow (forward positive) and the number of circuits.
+#[derive(Clone, Copy)]
+pub struct Sheet {
+    pub forward: Side,
+    pub backward: Side,
+    pub power_flow: i32,
+    pub circuits: i32,
+}
+
+/// The call that a border refused; for a take with the margin that it met.
+#[derive(Clone, Copy, PartialEq, Eq, Debug)]
+pub enum BorderFault {
+    Take(i32),
+    Adopt,
+    Reassess,
+}

@@ -1,0 +1,10 @@
+//! The four kinds of border, as one make over a small trait.
+pub mod kind;
+pub mod sheeted;
+
+pub use kind::Cable;
+pub use kind::Given;
+pub use kind::Kind;
+pub use kind::Line;
+pub use kind::Settlement;
+pub use sheeted::Sheeted;
