@@ -71,24 +71,26 @@ module _ (R : ℤ) (b : Meaning) (p m : ℤ) (can : Can-take (ramped R b) p m) w
       → (figure-in (moved (b .schedule) p m) q -ℤ figure-in (moved (b .schedule) p m) n) ≤ℤ (X +ℤ R)
   step-eased q n X side dq dn zero h =
       let dp = can-period (ramped R b) p m can in
-      elim (same-or-not q p)
-      [ inl e ↦
-          let fq : figure-in (moved (b .schedule) p m) q ≡ figure-in (b .schedule) p +ℤ m = ap (figure-in (moved (b .schedule) p m)) e ∙ changed-here (b .schedule) p (figure-in (b .schedule) p +ℤ m) dp in
-          let sq : figure-in (b .schedule) q ≡ figure-in (b .schedule) p = ap (figure-in (b .schedule)) e in
-          let fn : figure-in (moved (b .schedule) p m) n ≡ figure-in (b .schedule) n = changed-other (b .schedule) p (figure-in (b .schedule) p +ℤ m) dp n (λ x. elim side [ inl y ↦ omega (arith, ints) | inr y ↦ omega (arith, ints) ]) in
-          let side′ : (n ≡ p +ℤ pos 1) ⊎ (n ≡ p -ℤ pos 1) = elim side [ inl y ↦ inl (omega (arith, ints)) | inr y ↦ inr (omega (arith, ints)) ] in
-          elim (room n side′ dn) [ inl x ↦ omega (arith, ints) | inr x ↦ omega (arith, ints) ]
-      | inr ne ↦
-          let fq : figure-in (moved (b .schedule) p m) q ≡ figure-in (b .schedule) q = changed-other (b .schedule) p (figure-in (b .schedule) p +ℤ m) dp q ne in
-          elim (same-or-not n p)
-          [ inl e ↦
-              let fn : figure-in (moved (b .schedule) p m) n ≡ figure-in (b .schedule) p +ℤ m = ap (figure-in (moved (b .schedule) p m)) e ∙ changed-here (b .schedule) p (figure-in (b .schedule) p +ℤ m) dp in
-              let sn : figure-in (b .schedule) n ≡ figure-in (b .schedule) p = ap (figure-in (b .schedule)) e in
-              let side′ : (q ≡ p +ℤ pos 1) ⊎ (q ≡ p -ℤ pos 1) = elim side [ inl y ↦ inr (omega (arith, ints)) | inr y ↦ inl (omega (arith, ints)) ] in
-              elim (room q side′ dq) [ inl x ↦ omega (arith, ints) | inr x ↦ omega (arith, ints) ]
-          | inr no-n ↦
-              let fn : figure-in (moved (b .schedule) p m) n ≡ figure-in (b .schedule) n = changed-other (b .schedule) p (figure-in (b .schedule) p +ℤ m) dp n no-n in
-              omega (arith, ints) ] ]
+      elim (same-or-not q p) [
+        | inl e ↦
+            let fq : figure-in (moved (b .schedule) p m) q ≡ figure-in (b .schedule) p +ℤ m = ap (figure-in (moved (b .schedule) p m)) e ∙ changed-here (b .schedule) p (figure-in (b .schedule) p +ℤ m) dp in
+            let sq : figure-in (b .schedule) q ≡ figure-in (b .schedule) p = ap (figure-in (b .schedule)) e in
+            let fn : figure-in (moved (b .schedule) p m) n ≡ figure-in (b .schedule) n = changed-other (b .schedule) p (figure-in (b .schedule) p +ℤ m) dp n (λ x. elim side [ inl y ↦ omega (arith, ints) | inr y ↦ omega (arith, ints) ]) in
+            let side′ : (n ≡ p +ℤ pos 1) ⊎ (n ≡ p -ℤ pos 1) = elim side [ inl y ↦ inl (omega (arith, ints)) | inr y ↦ inr (omega (arith, ints)) ] in
+            elim (room n side′ dn) [ inl x ↦ omega (arith, ints) | inr x ↦ omega (arith, ints) ]
+        | inr ne ↦
+            let fq : figure-in (moved (b .schedule) p m) q ≡ figure-in (b .schedule) q = changed-other (b .schedule) p (figure-in (b .schedule) p +ℤ m) dp q ne in
+            elim (same-or-not n p) [
+              | inl e ↦
+                  let fn : figure-in (moved (b .schedule) p m) n ≡ figure-in (b .schedule) p +ℤ m = ap (figure-in (moved (b .schedule) p m)) e ∙ changed-here (b .schedule) p (figure-in (b .schedule) p +ℤ m) dp in
+                  let sn : figure-in (b .schedule) n ≡ figure-in (b .schedule) p = ap (figure-in (b .schedule)) e in
+                  let side′ : (q ≡ p +ℤ pos 1) ⊎ (q ≡ p -ℤ pos 1) = elim side [ inl y ↦ inr (omega (arith, ints)) | inr y ↦ inl (omega (arith, ints)) ] in
+                  elim (room q side′ dq) [ inl x ↦ omega (arith, ints) | inr x ↦ omega (arith, ints) ]
+              | inr no-n ↦
+                  let fn : figure-in (moved (b .schedule) p m) n ≡ figure-in (b .schedule) n = changed-other (b .schedule) p (figure-in (b .schedule) p +ℤ m) dp n no-n in
+                  omega (arith, ints)
+            ]
+      ]
 
 -- ---- an overrun by its parts
 pub over-in : (f u l X : ℤ) → pos 0 ≤ℤ X → (f -ℤ X) ≤ℤ u → l ≤ℤ (f +ℤ X) → maxZ (pos 0) (maxZ (f -ℤ u) (l -ℤ f)) ≤ℤ X
@@ -102,8 +104,8 @@ le-self x = omega (arith, ints)
 
 -- X is a bound of the ramp's overrun before the take
 module _ (R : ℤ) (b : Meaning) (p m q X : ℤ) (can : Can-take (ramped R b) p m) (day : Period (days-length b) q)
-         (below : overrun (took b p m) q ≤ℤ overrun b q)
-         (zero : pos 0 ≤ℤ X) (high : (figure-in (b .schedule) q -ℤ X) ≤ℤ ramped R b .upper (b .schedule) q) (low : ramped R b .lower (b .schedule) q ≤ℤ (figure-in (b .schedule) q +ℤ X)) where
+    (below : overrun (took b p m) q ≤ℤ overrun b q)
+    (zero : pos 0 ≤ℤ X) (high : (figure-in (b .schedule) q -ℤ X) ≤ℤ ramped R b .upper (b .schedule) q) (low : ramped R b .lower (b .schedule) q ≤ℤ (figure-in (b .schedule) q +ℤ X)) where
   under-X : overrun b q ≤ℤ X
   unfolding overrun
   under-X =

@@ -20,6 +20,8 @@ use Rattle.borders.specs.Answers.{Take-answer, Adopt-answer, Reassess-answer, 
 use Rattle.std.specs.Options.{Cases, mapped}
 use Rattle.std.specs.declared.option.Option.{Option}
 use Rattle.std.specs.declared.option.Option.the-variants.{Some, None}
+use mir.Syntax.{w32}
+use mir.Val.{SFits}
 use Rattle.borders.proofs.Days.{by-day, day-true, day-false, figure-day}
 
 pub capped-most : (R : ℤ) (s : Schedule) (q limit : ℤ) → capped-by R s q limit ≤ℤ limit
@@ -44,10 +46,12 @@ lifted-most R s q limit r w h =
 
 pub ramped-limited : (R : ℤ) (s : Schedule) (p lo hi : ℤ) → pos 1 ≤ℤ R → Within s → Limited lo hi → Limited (ramped-lower R s p lo) (ramped-upper R s p hi)
 ramped-limited R s p lo hi r w h =
-    record { top-most = omega (arith, ints, capped-most R s (p +ℤ pos 1) (capped-by R s (p -ℤ pos 1) hi), capped-most R s (p -ℤ pos 1) hi, h .top-most);
-             top-least = capped-least R s (p +ℤ pos 1) (capped-by R s (p -ℤ pos 1) hi) r w (capped-least R s (p -ℤ pos 1) hi r w (h .top-least));
-             bottom-least = omega (arith, ints, lifted-least R s (p +ℤ pos 1) (lifted-by R s (p -ℤ pos 1) lo), lifted-least R s (p -ℤ pos 1) lo, h .bottom-least);
-             bottom-most = lifted-most R s (p +ℤ pos 1) (lifted-by R s (p -ℤ pos 1) lo) r w (lifted-most R s (p -ℤ pos 1) lo r w (h .bottom-most)) }
+    record {
+      top-most = omega (arith, ints, capped-most R s (p +ℤ pos 1) (capped-by R s (p -ℤ pos 1) hi), capped-most R s (p -ℤ pos 1) hi, h .top-most);
+      top-least = capped-least R s (p +ℤ pos 1) (capped-by R s (p -ℤ pos 1) hi) r w (capped-least R s (p -ℤ pos 1) hi r w (h .top-least));
+      bottom-least = omega (arith, ints, lifted-least R s (p +ℤ pos 1) (lifted-by R s (p -ℤ pos 1) lo), lifted-least R s (p -ℤ pos 1) lo, h .bottom-least);
+      bottom-most = lifted-most R s (p +ℤ pos 1) (lifted-by R s (p -ℤ pos 1) lo) r w (lifted-most R s (p -ℤ pos 1) lo r w (h .bottom-most));
+    }
 
 pub capped-day : (R : ℤ) (s : Schedule) (q limit : ℤ) → Period (length s) q → capped-by R s q limit ≡ minZ limit (figure-in s q +ℤ R)
 unfolding capped-by
@@ -127,6 +131,7 @@ between R s p day next st =
   where
     places : (p : ℤ) → pos 1 ≤ℤ p → place (p +ℤ pos 1) - 1 ≡ place p
     places p h = omega (arith, ints)
+
     both : (x y a b c R : ℤ) → x ≡ a → y ≡ b → c ≡ a → b ≤ℤ (c +ℤ R) → c ≤ℤ (b +ℤ R) → (x ≤ℤ (y +ℤ R)) × (y ≤ℤ (x +ℤ R))
     both x y a b c R e f g h k = (omega (arith, ints), omega (arith, ints))
 
@@ -145,19 +150,23 @@ down x y R h = omega (arith, ints)
 pub admitted-over : (R : ℤ) (b : Meaning) (s : Schedule) → Admitted b s → ((j : ℕ) → j < length s → 1 ≤ j → Step R s j) → Admitted (ramped R b) s
 admitted-over R b s a steps =
     let own : (p : ℤ) → Period (days-length b) p → Period (length s) p = λ p day. subst (λ (n : ℕ). Period n p) (sym (a .as-long)) day in
-    record { some = a .some;
-             as-long = a .as-long;
-             within = a .within;
-             under = λ p day. capped-above R s (p +ℤ pos 1) (capped-by R s (p -ℤ pos 1) (b .upper s p)) (figure-in s p) (capped-above R s (p -ℤ pos 1) (b .upper s p) (figure-in s p) (a .under p day) (λ q. before-rise R s steps p (own p day) q .1)) (λ q. next-rise R s steps p (own p day) q .0);
-             over = λ p day. lifted-below R s (p +ℤ pos 1) (lifted-by R s (p -ℤ pos 1) (b .lower s p)) (figure-in s p) (lifted-below R s (p -ℤ pos 1) (b .lower s p) (figure-in s p) (a .over p day) (λ q. down _ _ R (before-rise R s steps p (own p day) q .0))) (λ q. down _ _ R (next-rise R s steps p (own p day) q .1)) }
+    record {
+      some = a .some;
+      as-long = a .as-long;
+      within = a .within;
+      under = λ p day. capped-above R s (p +ℤ pos 1) (capped-by R s (p -ℤ pos 1) (b .upper s p)) (figure-in s p) (capped-above R s (p -ℤ pos 1) (b .upper s p) (figure-in s p) (a .under p day) (λ q. before-rise R s steps p (own p day) q .1)) (λ q. next-rise R s steps p (own p day) q .0);
+      over = λ p day. lifted-below R s (p +ℤ pos 1) (lifted-by R s (p -ℤ pos 1) (b .lower s p)) (figure-in s p) (lifted-below R s (p -ℤ pos 1) (b .lower s p) (figure-in s p) (a .over p day) (λ q. down _ _ R (before-rise R s steps p (own p day) q .0))) (λ q. down _ _ R (next-rise R s steps p (own p day) q .1));
+    }
 
 pub admitted-below : (R : ℤ) (b : Meaning) (s : Schedule) → Admitted (ramped R b) s → Admitted b s
 admitted-below R b s a =
-    record { some = a .some;
-             as-long = a .as-long;
-             within = a .within;
-             under = λ p day. ≤ℤ-trans (figure-in s p) (ramped-upper R s p (b .upper s p)) (b .upper s p) (a .under p day) (upper-less R s p (b .upper s p));
-             over = λ p day. ≤ℤ-trans (b .lower s p) (ramped-lower R s p (b .lower s p)) (figure-in s p) (lower-more R s p (b .lower s p)) (a .over p day) }
+    record {
+      some = a .some;
+      as-long = a .as-long;
+      within = a .within;
+      under = λ p day. ≤ℤ-trans (figure-in s p) (ramped-upper R s p (b .upper s p)) (b .upper s p) (a .under p day) (upper-less R s p (b .upper s p));
+      over = λ p day. ≤ℤ-trans (b .lower s p) (ramped-lower R s p (b .lower s p)) (figure-in s p) (lower-more R s p (b .lower s p)) (a .over p day);
+    }
 
 -- the step to place j, from the limits of the period before it
 pub admitted-step : (R : ℤ) (b : Meaning) (s : Schedule) → Admitted (ramped R b) s → (j : ℕ) → j < length s → 1 ≤ j → Step R s j
@@ -172,10 +181,12 @@ admitted-step R b s a j h k =
     let cl = lifted-day R s (p +ℤ pos 1) (lifted-by R s (p -ℤ pos 1) (b .lower s p)) next in
     record {
       rise = rises (figure-in s p) (figure-in s (p +ℤ pos 1)) _ _ _ _ R f g cl (a .over p mine);
-      fall = falls (figure-in s p) (figure-in s (p +ℤ pos 1)) _ _ _ _ R f g cu (a .under p mine) }
+      fall = falls (figure-in s p) (figure-in s (p +ℤ pos 1)) _ _ _ _ R f g cu (a .under p mine);
+    }
   where
     rises : (x y a b l lo R : ℤ) → x ≡ a → y ≡ b → l ≡ maxZ lo (y -ℤ R) → l ≤ℤ x → b ≤ℤ (a +ℤ R)
     rises x y a b l lo R e f g h = omega (arith, ints, clamps)
+
     falls : (x y a b u hi R : ℤ) → x ≡ a → y ≡ b → u ≡ minZ hi (y +ℤ R) → x ≤ℤ u → a ≤ℤ (b +ℤ R)
     falls x y a b u hi R e f g h = omega (arith, ints, clamps)
 
@@ -220,14 +231,17 @@ follows-over R was new sheet p None h = tt
 follows-over R was new sheet p (Some t) h = ap (ramped R) h ∙ ramped-limits R was p (λ s. t .lower sheet (flow-of was p) s p) (λ s. t .upper sheet (flow-of was p) s p)
 
 pub reassess-below : (R : ℤ) (was : Meaning) (sheet : Sheet) (p : ℤ) (r : Result (Unit {0}) BorderFault) (new : Meaning) → Reassess-answer was sheet p r new → Reassess-answer (ramped R was) sheet p r (ramped R new)
-reassess-below R was sheet p (Ok x) new h =
-    (h .0,
-     record { schedule = h .1 .schedule;
-              passes = h .1 .passes;
-              stated = ap (mapped (ramped-stated R)) (h .1 .stated);
-              upper = λ s q other. ap (ramped-upper R s q) (h .1 .upper s q other);
-              lower = λ s q other. ap (ramped-lower R s q) (h .1 .lower s q other);
-              follows = follows-over R was new sheet p (was .stated) (h .1 .follows) })
+reassess-below R was sheet p (Ok x) new h = (
+  h .0,
+  record {
+    schedule = h .1 .schedule;
+    passes = h .1 .passes;
+    stated = ap (mapped (ramped-stated R)) (h .1 .stated);
+    upper = λ s q other. ap (ramped-upper R s q) (h .1 .upper s q other);
+    lower = λ s q other. ap (ramped-lower R s q) (h .1 .lower s q other);
+    follows = follows-over R was new sheet p (was .stated) (h .1 .follows);
+  },
+)
 reassess-below R was sheet p (Err e) new h = (h .0, h .1, ap (ramped R) (h .2))
 
 pub test-over : (R : ℤ) (b : Meaning) (t : Sheet) (s : Schedule) (p : ℤ) (o : Option Stated)
@@ -235,3 +249,46 @@ pub test-over : (R : ℤ) (b : Meaning) (t : Sheet) (s : Schedule) (p : ℤ) (o 
     → Cases (mapped (ramped-stated R) o) (Unit {0}) (λ rule. b .passes t s p ≡ rule .test t (figure-in s p))
 test-over R b t s p None h = tt
 test-over R b t s p (Some rule) h = h
+
+abbrev pub Near30 : ℤ → Type 0
+Near30 f = (negℤ (pos 30000) ≤ℤ f) × (f ≤ℤ pos 30000)
+
+-- ---- the tests of a neighbour, and sums with a rate
+pub early : (n : ℕ) (q : ℤ) → ltZ q (pos 1) ≡ true → Period n q → ⊥
+early n q e h = omega (arith, ints)
+
+pub late : (n : ℕ) (q k : ℤ) → k ≡ pos n → ltZ k q ≡ true → Period n q → ⊥
+late n q k e f h = omega (arith, ints)
+
+pub inside : (n : ℕ) (q k : ℤ) → k ≡ pos n → ltZ q (pos 1) ≡ false → ltZ k q ≡ false → Period n q
+inside n q k e f g = (omega (arith, ints), omega (arith, ints))
+
+pub raised-fits : (x R : ℤ) → negℤ (pos 30000) ≤ℤ x → x ≤ℤ pos 30000 → pos 1 ≤ℤ R → R ≤ℤ pos 20000 → SFits w32 (x +ℤ R) × SFits w32 (x -ℤ R)
+raised-fits x R a b c d = (omega (arith, ints), omega (arith, ints))
+
+pub rate-fits : (R : ℤ) → pos 1 ≤ℤ R → R ≤ℤ pos 20000 → SFits w32 R
+rate-fits R a b = omega (arith, ints)
+
+-- a limit above or below the flow, and what a margin of a ramp is
+pub limit-sum : (f u l m : ℤ) → Near30 f → Limited l u → (m ≡ u -ℤ f → SFits w32 (m +ℤ f) × (m +ℤ f ≡ u)) × (m ≡ f -ℤ l → SFits w32 (f -ℤ m) × (f -ℤ m ≡ l))
+limit-sum f u l m near lim = ((λ e. (omega (arith, ints), omega (arith, ints))), (λ e. (omega (arith, ints), omega (arith, ints))))
+
+pub margin-fits : (f u l : ℤ) → Near30 f → Limited l u → SFits w32 (u -ℤ f) × SFits w32 (f -ℤ l) × SFits w32 u × SFits w32 l
+margin-fits f u l near lim = (omega (arith, ints), omega (arith, ints), omega (arith, ints), omega (arith, ints))
+
+pub neighbours : (n : ℕ) (p : ℤ) → n ≤ 100 → Period n p → SFits w32 (p +ℤ pos 1) × SFits w32 (p -ℤ pos 1)
+neighbours n p h day = (omega (arith, ints), omega (arith, ints))
+
+pub near30-fits : (x : ℤ) → Near30 x → SFits w32 x
+near30-fits x h = omega (arith, ints)
+
+pub lt-before : (k n : ℕ) → k < n → k - 1 < n
+lt-before k n h = omega arith
+
+-- a schedule within ±30,000, by places
+pub by-place : (s : Schedule) (j : ℕ) → j < length s → Within s → Near30 (getD s j (pos 0))
+by-place s j h w =
+    let p : ℤ = pos (j + 1) in
+    let day : Period (length s) p = (omega (arith, ints), omega (arith, ints)) in
+    let e : figure-in s p ≡ getD s j (pos 0) = figure-day s p day ∙ ap (λ (i : ℕ). getD s i (pos 0)) (omega arith) in
+    subst Near30 e (w .least p, w .most p)

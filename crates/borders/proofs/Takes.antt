@@ -14,7 +14,9 @@ use Rattle.borders.specs.Day.{Period, Within, figure-in, in-day}
 use Rattle.borders.specs.Limits.{Limited}
 use Rattle.borders.specs.Border.{Meaning, Can-take, forward-of, backward-of, margin-met, top, bottom, took, days-length, flow-of}
 use Rattle.borders.specs.Answers.{Take-answer}
-use Rattle.borders.proofs.Days.{by-day}
+use mir.Syntax.{w32}
+use mir.Val.{SFits}
+use Rattle.borders.proofs.Days.{by-day, day-true}
 
 below-zero : (m x y : ℤ) → m <ℤ pos 0 → x ≡ cond (ltZ m (pos 0)) x y
 below-zero m x y h = grind (arith, ints)
@@ -48,3 +50,12 @@ margin-small b p w lim =
   where
     small : (f u l : ℤ) → negℤ (pos 30000) ≤ℤ f → f ≤ℤ pos 30000 → Limited l u → ((negℤ (pos 80000) ≤ℤ (f -ℤ l)) × ((f -ℤ l) ≤ℤ pos 80000)) × ((negℤ (pos 80000) ≤ℤ (u -ℤ f)) × ((u -ℤ f) ≤ℤ pos 80000))
     small f u l a z h = ((omega (arith, ints), omega (arith, ints)), (omega (arith, ints), omega (arith, ints)))
+
+pub told-day : (b : Meaning) (p x : ℤ) → Period (days-length b) p → cond (in-day (days-length b) p) x (pos 0) ≡ x
+told-day b p x day = ap (λ (t : Bool). cond t x (pos 0)) (day-true (days-length b) p day)
+
+pub near-fits : (x : ℤ) → negℤ (pos 80000) ≤ℤ x → x ≤ℤ pos 80000 → SFits w32 (pos 0 -ℤ x)
+near-fits x h k = omega (arith, ints)
+
+pub taken-back : (f x m : ℤ) → ltZ m (pos 0) ≡ true → ltZ m (pos 0 -ℤ x) ≡ false → ((pos 0 <ℤ m) × (m ≤ℤ f)) ⊎ ((m <ℤ pos 0) × (negℤ m ≤ℤ x))
+taken-back f x m h k = inr (omega (arith, ints), omega (arith, ints))

@@ -92,8 +92,9 @@ ramped-stated R t = record { test = t .test; lower = λ sheet a s p. ramped-lowe
 
 abbrev pub ramped : ℤ → Meaning → Meaning
 ramped R b = record {
-    schedule = b .schedule;
-    lower = λ s p. ramped-lower R s p (b .lower s p);
-    upper = λ s p. ramped-upper R s p (b .upper s p);
-    passes = b .passes;
-    stated = mapped (ramped-stated R) (b .stated) }
+  schedule = b .schedule;
+  lower = λ s p. ramped-lower R s p (b .lower s p);
+  upper = λ s p. ramped-upper R s p (b .upper s p);
+  passes = b .passes;
+  stated = mapped (ramped-stated R) (b .stated);
+}

@@ -6,7 +6,6 @@ ghost use Rattle.std.specs.Orderings.{Decides};
 ghost use Rattle.borders.specs.Border.{Meaning, days-length, flow-of, forward-of, backward-of, passing, Admitted};
 ghost use Rattle.borders.specs.Laws.{Known};
 ghost use Rattle.borders.specs.Answers.{May-take, Take-answer, Adopt-answer, Reassess-answer};
-
 use crate::BorderFault;
 use crate::Sheet;
 
@@ -47,10 +46,18 @@ pub trait Border {
     {
         if m < 0 {
             let margin = self.backward_margin(period);
-            if m < -margin { Err(BorderFault::Take(margin)) } else { Ok(()) }
+            if m < -margin {
+                Err(BorderFault::Take(margin))
+            } else {
+                Ok(())
+            }
         } else {
             let margin = self.forward_margin(period);
-            if m == 0 || m > margin { Err(BorderFault::Take(margin)) } else { Ok(()) }
+            if m == 0 || m > margin {
+                Err(BorderFault::Take(margin))
+            } else {
+                Ok(())
+            }
         }
     }
 

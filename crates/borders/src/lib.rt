@@ -2,9 +2,8 @@
 pub mod border;
 pub mod ramp;
 
-use equations::Side;
-
 pub use border::Border;
+use equations::Side;
 pub use ramp::Ramp;
 
 /// A sheet for one border and period: the figures of each direction, the power flow (forward positive) and the number of circuits.

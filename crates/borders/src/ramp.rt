@@ -6,7 +6,6 @@ ghost use lib.Signed.{_≤ℤ_};
 ghost use Rattle.std.specs.Results.{Cases};
 ghost use Rattle.borders.specs.Limits.{Rate, capped-by, lifted-by};
 ghost use Rattle.borders.specs.Border.{ramped};
-
 use crate::Border;
 use crate::BorderFault;
 use crate::Sheet;

@@ -14,11 +14,12 @@ stated-by passed lo hi = record { test = passed; lower = λ t a s p. lo t a; upp
 -- flows and limits by period, and what the kind states
 abbrev pub sheeted : Stated → Schedule → Schedule → Schedule → Meaning
 sheeted kind flows lows highs = record {
-    schedule = flows;
-    lower = λ s p. figure-in lows p;
-    upper = λ s p. figure-in highs p;
-    passes = λ t s p. kind .test t (figure-in s p);
-    stated = Some kind }
+  schedule = flows;
+  lower = λ s p. figure-in lows p;
+  upper = λ s p. figure-in highs p;
+  passes = λ t s p. kind .test t (figure-in s p);
+  stated = Some kind;
+}
 
 -- nothing flows in the 24 periods of a day
 abbrev pub idle : Schedule

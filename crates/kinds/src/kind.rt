@@ -9,7 +9,6 @@ ghost use Rattle.equations.specs.Ranges.{Near};
 ghost use Rattle.borders.specs.declared.Sheet.{Sheet as Paper};
 ghost use Rattle.borders.specs.Limits.{Limited};
 ghost use Rattle.kinds.specs.Kinds.{none, amount, two-used, one-used, all-used, plain-upper, plain-lower, cable-test, cable-formula, settlement-test, settlement-formula, given-test, given-formula, line-ranges, line-test, line-upper, line-lower};
-
 use borders::Sheet;
 use equations::Direction;
 use equations::Formula;
@@ -96,7 +95,10 @@ pub impl Kind for Cable as CableKind {
     ghost lowest = { plain-lower cable-formula };
 
     fn accepts(&self, sheet: &Sheet, _flow: i32) -> bool {
-        uses_two(&sheet.forward) & uses_two(&sheet.backward) & unused(sheet.power_flow) & unused(sheet.circuits)
+        uses_two(&sheet.forward)
+            & uses_two(&sheet.backward)
+            & unused(sheet.power_flow)
+            & unused(sheet.circuits)
     }
 
     fn upper(&self, sheet: &Sheet, _flow: i32) -> i64 {
@@ -119,7 +121,10 @@ pub impl Kind for Settlement as SettlementKind {
     ghost lowest = { plain-lower settlement-formula };
 
     fn accepts(&self, sheet: &Sheet, _flow: i32) -> bool {
-        uses_two(&sheet.forward) & uses_two(&sheet.backward) & unused(sheet.power_flow) & ((1 <= sheet.circuits) & (sheet.circuits <= 2))
+        uses_two(&sheet.forward)
+            & uses_two(&sheet.backward)
+            & unused(sheet.power_flow)
+            & ((1 <= sheet.circuits) & (sheet.circuits <= 2))
     }
 
     fn upper(&self, sheet: &Sheet, _flow: i32) -> i64 {
@@ -142,7 +147,10 @@ pub impl Kind for Given as GivenKind {
     ghost lowest = { plain-lower given-formula };
 
     fn accepts(&self, sheet: &Sheet, _flow: i32) -> bool {
-        uses_one(&sheet.forward) & uses_one(&sheet.backward) & unused(sheet.power_flow) & unused(sheet.circuits)
+        uses_one(&sheet.forward)
+            & uses_one(&sheet.backward)
+            & unused(sheet.power_flow)
+            & unused(sheet.circuits)
     }
 
     fn upper(&self, sheet: &Sheet, _flow: i32) -> i64 {
@@ -175,14 +183,28 @@ pub impl Kind for Line as LineKind {
     ghost lowest = { line-lower };
 
     fn accepts(&self, sheet: &Sheet, flow: i32) -> bool {
-        line_in_ranges(sheet) & (self.upper(sheet, flow) <= 30_000) & (-30_000 <= self.lower(sheet, flow))
+        line_in_ranges(sheet)
+            & (self.upper(sheet, flow) <= 30_000)
+            & (-30_000 <= self.lower(sheet, flow))
     }
 
     fn upper(&self, sheet: &Sheet, flow: i32) -> i64 {
-        limit(Formula::Line, Direction::Forward, &sheet.forward, flow, sheet.power_flow)
+        limit(
+            Formula::Line,
+            Direction::Forward,
+            &sheet.forward,
+            flow,
+            sheet.power_flow,
+        )
     }
 
     fn lower(&self, sheet: &Sheet, flow: i32) -> i64 {
-        limit(Formula::Line, Direction::Backward, &sheet.backward, flow, sheet.power_flow)
+        limit(
+            Formula::Line,
+            Direction::Backward,
+            &sheet.backward,
+            flow,
+            sheet.power_flow,
+        )
     }
 }

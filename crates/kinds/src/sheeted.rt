@@ -8,12 +8,10 @@ ghost use denote.Ref.{now};
 ghost use Rattle.std.specs.Options.{Cases as BySome};
 ghost use Rattle.borders.specs.Day.{Period, place, figure-in};
 ghost use Rattle.kinds.specs.Sheets.{stated-by, sheeted, idle};
-
+use crate::Kind;
 use borders::Border;
 use borders::BorderFault;
 use borders::Sheet;
-
-use crate::Kind;
 
 /// How many periods a delivery day has.
 pub const PERIODS: usize = 24;

@@ -20,7 +20,8 @@ returns-in-Cable c =
     let d : c .net-capacity .result -ℤ c .count-in-flow .result ≡ net-capacity (c .args .formula) (c .args .direction) (c .args .side .now) -ℤ counted (c .args .direction) (c .args .flow) = cc (c .net-capacity .ensures .value) in
     simp toZ-ofZ record {
       value = d ∙ sym (plain-available (c .args .formula) (c .args .direction) (c .args .side .now) (c .args .flow) (c .args .power-flow) (c .in-Cable .is));
-      near = n .1 }
+      near = n .1;
+    }
 
 pub returns-in-Line : need.returns-in-Line
 returns-in-Line c =

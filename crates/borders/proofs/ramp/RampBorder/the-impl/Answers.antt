@@ -13,4 +13,5 @@ known-law g b =
       flows-within = k .flows-within;
       limits-within = λ s p w day. ramped-limited (b .rate) s p (below .lower s p) (below .upper s p) (b .allowed .0) w (k .limits-within s p w day);
       take-eases = λ p m q can day. ramp-eased (b .rate) below p m q can day (k .take-eases p m q (can-below (b .rate) below p m can) day);
-      test-stated = λ t s p. test-over (b .rate) below t s p (below .stated) (k .test-stated t s p) }
+      test-stated = λ t s p. test-over (b .rate) below t s p (below .stated) (k .test-stated t s p);
+    }
