@@ -2,3 +2,4 @@ pub mod Days
 pub mod Takes
 pub mod Ramps
 pub mod Eased
+pub mod Banked

@@ -3,3 +3,4 @@ pub mod Limits
 pub mod Border
 pub mod Laws
 pub mod Answers
+pub mod Bank

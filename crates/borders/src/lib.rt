@@ -1,7 +1,12 @@
 //! Borders: one interface with a meaning and laws, the ramp over any border, and the bank that holds borders of different makes.
+pub mod bank;
 pub mod border;
 pub mod ramp;
 
+pub use bank::Bank;
+pub use bank::BankFault;
+pub use bank::NoBorders;
+pub use bank::Pair;
 pub use border::Border;
 use equations::Side;
 pub use ramp::Ramp;
