@@ -1,0 +1,3 @@
+//! Trials of borders, with a make of border that is not ours.
+pub mod shut;
+
