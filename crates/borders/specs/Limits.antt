@@ -4,6 +4,8 @@ use lib.ListN.{length}
 use lib.IntN.{ℤ, pos, _+ℤ_, _-ℤ_, negℤ}
 use lib.Signed.{_≤ℤ_}
 use Rattle.std.specs.Numbers.{maxZ, minZ}
+use Rattle.equations.specs.Grounds.{tells}
+use Rattle.equations.specs.declared.fault.Told.{Told}
 use Rattle.borders.specs.Day.{Schedule, in-day, figure-in}
 
 -- no upper limit above 30,000, no lower below −30,000, and neither further than 50,000 from 0
@@ -16,6 +18,10 @@ pub record Limited (lo hi : ℤ) : Type 0 where
 -- the rates that a ramp may have
 abbrev pub Rate : ℤ → Type 0
 Rate R = (pos 1 ≤ℤ R) × (R ≤ℤ pos 20000)
+
+-- what the refusal of a rate tells: ground 8
+abbrev pub rate-told : Told
+rate-told = tells 8 (pos 0) (pos 0)
 
 -- a neighbouring period q caps an upper limit at R above its flow, and lifts a lower one to R below it
 unfoldable pub capped-by : ℤ → Schedule → ℤ → ℤ → ℤ

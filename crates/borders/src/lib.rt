@@ -10,6 +10,7 @@ pub use bank::Pair;
 pub use border::Border;
 use equations::Side;
 pub use ramp::Ramp;
+pub use ramp::RateRefused;
 
 /// A sheet for one border and period: the figures of each direction, the power flow (forward positive) and the number of circuits.
 #[derive(Clone, Copy)]

@@ -4,11 +4,12 @@ ghost use denote.Ref.{now};
 ghost use lib.IntN.{pos};
 ghost use lib.Signed.{_≤ℤ_};
 ghost use Rattle.std.specs.Results.{Cases};
-ghost use Rattle.borders.specs.Limits.{Rate, capped-by, lifted-by};
+ghost use Rattle.borders.specs.Limits.{Rate, rate-told, capped-by, lifted-by};
 ghost use Rattle.borders.specs.Border.{ramped};
 use crate::Border;
 use crate::BorderFault;
 use crate::Sheet;
+use equations::Told;
 
 /// A ramp over a border, itself a border. Its rate is 1 to 20,000.
 #[derive(Drop)]
@@ -18,15 +19,34 @@ pub struct Ramp<B> {
     ghost allowed: { Rate rate },
 }
 
+/// Ground 8: a rate that no ramp may have. The border that it was to stand over comes back.
+#[derive(Drop)]
+pub struct RateRefused<B> {
+    pub below: B,
+}
+
+impl<B> RateRefused<B> {
+    /// The number of the ground, the place and the period.
+    pub fn told(&self) -> Told
+        ensures { λ r. ⌜ r ≡ rate-told ⌝ }
+    {
+        Told {
+            number: 8,
+            place: 0,
+            period: 0,
+        }
+    }
+}
+
 impl<B: Border> Ramp<B> {
-    /// A ramp over a border, which comes back where the rate is not allowed.
-    pub fn new(rate: i32, below: B) -> Result<Self, B>
+    /// A ramp over a border, or the refusal of its rate.
+    pub fn new(rate: i32, below: B) -> Result<Self, RateRefused<B>>
         ensures { λ r. ⌜ Cases r
             (λ b. Rate rate × (ramped (b .rate) (B·Border .meaning (b .below)) ≡ ramped rate (B·Border .meaning below)))
-            (λ e. (Rate rate → ⊥) × (e ≡ below)) ⌝ }
+            (λ e. (Rate rate → ⊥) × (e .below ≡ below)) ⌝ }
     {
         if rate < 1 || rate > 20_000 {
-            return Err(below);
+            return Err(RateRefused { below });
         }
         Ok(Ramp { rate, below })
     }
