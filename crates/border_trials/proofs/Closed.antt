@@ -55,7 +55,8 @@ closed-known = record {
   flows-within = record { least = λ p. near _ (still p) .0; most = λ p. near _ (still p) .1 };
   limits-within = λ s p w day. record { top-most = omega (arith, ints); top-least = omega (arith, ints); bottom-least = omega (arith, ints); bottom-most = omega (arith, ints) };
   take-eases = λ p m q can day. absurd (takes-none p m can);
-  test-stated = λ t s p. tt }
+  test-stated = λ t s p. tt;
+}
 
 -- ---- the one schedule that it admits
 pub only-zero : (s : Schedule) → length s ≡ 1 → getD s 0 (pos 0) ≡ pos 0 → s ≡ pos 0 ∷ []
@@ -69,10 +70,12 @@ zero-admitted = record {
   as-long = refl;
   within = closed-known .flows-within;
   under = λ p day. le _ _ (still p);
-  over = λ p day. ge _ _ (still p) }
+  over = λ p day. ge _ _ (still p);
+}
   where
     le : (x y : ℤ) → x ≡ y → x ≤ℤ y
     le x y e = omega (arith, ints)
+
     ge : (x y : ℤ) → x ≡ y → y ≤ℤ x
     ge x y e = omega (arith, ints)
 

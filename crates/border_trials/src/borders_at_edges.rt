@@ -1,17 +1,18 @@
 // Borders at the edges of their ranges and of their day.
+use crate::shut::Shut;
 use borders::Border;
 use borders::BorderFault;
 use borders::BorderFaultDebug as _;
 use borders::BorderFaultPartialEq as _;
 use borders::Ramp;
 use borders::Sheet;
-use crate::shut::Shut;
 use equations::Side;
-use kinds::Cable;
 use kinds::Given;
-use kinds::Line;
-use kinds::Settlement;
 use kinds::Sheeted;
+use kinds::cable;
+use kinds::given;
+use kinds::line;
+use kinds::settlement;
 use std::test::*;
 
 // One side's figures, the power flow and the circuits of a sheet with equal sides, and whether it passes for a cable, a settlement border, a line and a given one.
@@ -57,10 +58,10 @@ fn tests_of_sheets() -> Result<(), Fail> {
         Row(20_000, 20_000, 0, 0, 10_000, 0, line),
         Row(20_000, 20_000, 0, 0, 10_001, 0, no),
     ];
-    let cable = Sheeted::new(Cable);
-    let settlement = Sheeted::new(Settlement);
-    let wire = Sheeted::new(Line);
-    let given = Sheeted::new(Given);
+    let cable = cable();
+    let settlement = settlement();
+    let wire = line();
+    let given = given();
     for Row(first, second, margin, reserve, power_flow, circuits, passes) in table {
         let side = Side {
             first,
@@ -89,7 +90,7 @@ fn tests_of_sheets() -> Result<(), Fail> {
 
 // A given border with limits of 20,000 both ways in every period.
 fn wide() -> Result<Sheeted<Given>, Fail> {
-    let mut border = Sheeted::new(Given);
+    let mut border = given();
     for period in 1..25 {
         border.reassess(&sheet(20_000, 0), period)?;
     }
@@ -115,7 +116,13 @@ fn ramp_at_the_ends_of_the_day() -> Result<(), Fail> {
     for (period, m, answer) in takes {
         check_eq(border.take(period, m), answer)?;
     }
-    let margins = [(1, 0, 200), (2, 100, 0), (3, 100, 100), (23, 0, 100), (24, 200, 0)];
+    let margins = [
+        (1, 0, 200),
+        (2, 100, 0),
+        (3, 100, 100),
+        (23, 0, 100),
+        (24, 200, 0),
+    ];
     for (period, forward, backward) in margins {
         check_eq(border.forward_margin(period), forward)?;
         check_eq(border.backward_margin(period), backward)?;
@@ -125,7 +132,7 @@ fn ramp_at_the_ends_of_the_day() -> Result<(), Fail> {
 
 #[test]
 fn overrun_after_a_derating() -> Result<(), Fail> {
-    let mut cable = Sheeted::new(Cable);
+    let mut cable = cable();
     let mut less = sheet(500, 500);
     cable.reassess(&less, 3)?;
     cable.take(3, 400)?;

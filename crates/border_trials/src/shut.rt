@@ -3,7 +3,6 @@ ghost use mathlib.Core.Bool.{false};
 ghost use mathlib.Core.List.{List, [], _∷_};
 ghost use lib.IntN.{pos};
 ghost use Rattle.border_trials.specs.Shut.{closed};
-
 use borders::Border;
 use borders::BorderFault;
 use borders::Sheet;
@@ -43,7 +42,11 @@ pub impl Border for Shut as ShutBorder {
     }
 
     fn adopt(&mut self, schedule: &[i32]) -> Result<(), BorderFault> {
-        if self.admits(schedule) { Ok(()) } else { Err(BorderFault::Adopt) }
+        if self.admits(schedule) {
+            Ok(())
+        } else {
+            Err(BorderFault::Adopt)
+        }
     }
 
     fn reassess(&mut self, _sheet: &Sheet, _period: i32) -> Result<(), BorderFault> {

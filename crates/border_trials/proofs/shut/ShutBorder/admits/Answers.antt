@@ -12,6 +12,7 @@ use Rattle.border_trials.proofs.shut.ShutBorder.admits.Needs as need
 pub returns-then-schedule-eq1 : need.returns-then-schedule-eq1
 returns-then-schedule-eq1 c =
     let s = c .args .schedule .now in
-    let f : SFits w32 (getD s 0 (pos 0)) = search needs in
-    (λ e. subst (Admitted closed) (sym (only-zero s (c .if-schedule-eq1 .taken) (bits-zero (getD s 0 (pos 0)) f e))) zero-admitted,
-     λ a. zero-bits (getD s 0 (pos 0)) (admitted-zero s a))
+    let f : SFits w32 (getD s 0 (pos 0)) = search needs in (
+      λ e. subst (Admitted closed) (sym (only-zero s (c .if-schedule-eq1 .taken) (bits-zero (getD s 0 (pos 0)) f e))) zero-admitted,
+      λ a. zero-bits (getD s 0 (pos 0)) (admitted-zero s a),
+    )
