@@ -1,21 +1,29 @@
 // Borders at the edges of their ranges and of their day.
 use crate::shut::Shut;
+use crate::shut::ShutBorder;
 use borders::Border;
 use borders::BorderFault;
 use borders::BorderFaultDebug as _;
 use borders::BorderFaultPartialEq as _;
 use borders::Ramp;
+use borders::ramp::RampBorder;
 use borders::Sheet;
 use equations::Side;
 use kinds::Given;
 use kinds::Sheeted;
 use kinds::cable;
 use kinds::given;
+use kinds::kind::CableKind;
+use kinds::kind::GivenKind;
+use kinds::kind::LineKind;
+use kinds::kind::SettlementKind;
 use kinds::line;
 use kinds::settlement;
+use kinds::sheeted::SheetedBorder;
 use std::test::*;
 
 // One side's figures, the power flow and the circuits of a sheet with equal sides, and whether it passes for a cable, a settlement border, a line and a given one.
+#[derive(Drop)]
 struct Row(i32, i32, i32, i32, i32, i32, [bool; 4]);
 
 fn sheet(first: i32, second: i32) -> Sheet {
@@ -36,7 +44,7 @@ fn sheet(first: i32, second: i32) -> Sheet {
 #[test]
 fn tests_of_sheets() -> Result<(), Fail> {
     let no = [false, false, false, false];
-    let line = [false, false, true, false];
+    let line_only = [false, false, true, false];
     let table = [
         Row(0, 0, 0, 0, 0, 0, [true, false, true, true]),
         Row(20_000, 20_000, 0, 0, 0, 0, [true, false, true, false]),
@@ -47,15 +55,15 @@ fn tests_of_sheets() -> Result<(), Fail> {
         Row(20_000, 20_000, 0, 0, 0, 1, [false, true, false, false]),
         Row(0, 0, 0, 0, 0, 2, [false, true, false, false]),
         Row(0, 0, 0, 0, 0, 3, no),
-        Row(0, 0, 2_000, 0, 0, 0, line),
+        Row(0, 0, 2_000, 0, 0, 0, line_only),
         Row(0, 0, 2_001, 0, 0, 0, no),
-        Row(0, 0, 0, 20_000, 0, 0, line),
+        Row(0, 0, 0, 20_000, 0, 0, line_only),
         Row(0, 0, 0, 20_001, 0, 0, no),
-        Row(0, 0, 0, 0, 20_000, 0, line),
+        Row(0, 0, 0, 0, 20_000, 0, line_only),
         Row(0, 0, 0, 0, -20_001, 0, no),
-        Row(20_000, 20_000, 0, 0, -10_000, 0, line),
+        Row(20_000, 20_000, 0, 0, -10_000, 0, line_only),
         Row(20_000, 20_000, 0, 0, -10_001, 0, no),
-        Row(20_000, 20_000, 0, 0, 10_000, 0, line),
+        Row(20_000, 20_000, 0, 0, 10_000, 0, line_only),
         Row(20_000, 20_000, 0, 0, 10_001, 0, no),
     ];
     let cable = cable();

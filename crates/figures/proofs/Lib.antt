@@ -1,1 +1,2 @@
 mod Margined
+mod Bordered

@@ -6,6 +6,9 @@ use lib.IntN.{ℤ, pos, negℤ}
 use Rattle.equations.specs.Sums.{total}
 use Rattle.equations.specs.Margins.{Margin-of, Reached}
 use Rattle.equations.specs.Capacities.{line-available}
+use Rattle.borders.specs.Day.{figure-in}
+use Rattle.borders.specs.Limits.{capped-by, lifted-by}
+use Rattle.borders.specs.Border.{overrun}
 use Rattle.equations.proofs.Reaching.{last-reached}
 use Rattle.figures.specs.Worked.{Given-by, rules, expected}
 
@@ -26,5 +29,5 @@ unfolding total
 margin-4 = last-reached (pos 2) _ _ (negℤ (pos 5)) (record { le = tt }) (inl (record { le = tt })) (⊎-elim (λ h. h .le) (λ h. h .le))
 
 pub figures-follow : Given-by rules expected
-unfolding total line-available
-figures-follow = (margin-1, (margin-2, (margin-3, (margin-4, (refl, (refl, (refl, (refl, (refl, (refl, (refl, (refl, (refl, tt)))))))))))))
+unfolding total line-available overrun figure-in capped-by lifted-by
+figures-follow = (margin-1, (margin-2, (margin-3, (margin-4, (refl, (refl, (refl, (refl, (refl, (refl, (refl, (refl, (refl, (refl, (refl, (refl, (refl, (refl, tt))))))))))))))))))

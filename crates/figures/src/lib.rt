@@ -1,9 +1,16 @@
 //! The worked figures: one list, computed, and shown to follow from the written rules.
 ghost use mathlib.Core.Path.{_≡_};
 ghost use Rattle.std.specs.Results.{Cases};
-ghost use Rattle.equations.specs.Capacities.{net-capacity};
+ghost use lib.IntN.{negℤ};
+ghost use Rattle.std.specs.Numbers.{minZ};
+ghost use Rattle.equations.specs.Capacities.{net-capacity, cut-at-0};
 ghost use Rattle.equations.specs.declared.capacity.Direction.the-variants.{Forward};
-ghost use Rattle.figures.specs.Worked.{Given-by, rules, expected, expected-margins, expected-reserves, expected-settlements, expected-lines, two-capacities, full-source};
+ghost use Rattle.figures.specs.Worked.{Given-by, rules, expected, expected-margins, expected-reserves, expected-settlements, expected-lines, expected-cable, expected-ramp, cable-sheet, wide-sheet, two-capacities, full-source};
+use borders::Border;
+use borders::BorderFault;
+use borders::Ramp;
+use borders::Sheet;
+use borders::ramp::RampBorder;
 use equations::Direction;
 use equations::FigureFault;
 use equations::Formula;
@@ -14,6 +21,31 @@ use equations::cut;
 use equations::margin;
 use equations::reserve;
 use equations::uncut_ntc;
+use kinds::cable;
+use kinds::given;
+use kinds::kind::CableKind;
+use kinds::kind::GivenKind;
+use kinds::sheeted::SheetedBorder;
+
+/// Why a figure could not be worked out, which never happens.
+#[derive(Clone, Copy)]
+pub enum Unworked {
+    Figure(FigureFault),
+    Border(BorderFault),
+    Rate,
+}
+
+pub impl From<FigureFault> for Unworked as UnworkedFromFigure {
+    fn from(fault: FigureFault) -> Unworked {
+        Unworked::Figure(fault)
+    }
+}
+
+pub impl From<BorderFault> for Unworked as UnworkedFromBorder {
+    fn from(fault: BorderFault) -> Unworked {
+        Unworked::Border(fault)
+    }
+}
 
 // The margins of four lists of deviations.
 fn margins() -> Result<[i64; 4], FigureFault>
@@ -102,13 +134,86 @@ fn line_figures() -> [i64; 3]
     ]
 }
 
+// A sheet for a cable.
+fn cable_sheet(forward: i32, backward: i32) -> Sheet
+    ensures { λ r. ⌜ r ≡ cable-sheet forward backward ⌝ }
+{
+    Sheet {
+        forward: two_capacities(forward, forward),
+        backward: two_capacities(backward, backward),
+        power_flow: 0,
+        circuits: 0,
+    }
+}
+
+// A sheet of 20,000 both ways for a given border.
+fn wide_sheet() -> Sheet
+    ensures { λ r. ⌜ r ≡ wide-sheet ⌝ }
+{
+    Sheet {
+        forward: two_capacities(20_000, 0),
+        backward: two_capacities(20_000, 0),
+        power_flow: 0,
+        circuits: 0,
+    }
+}
+
+// What may be traded at a margin: none where it is below 0.
+fn tradable(margin: i32) -> i64
+    ensures { λ r. ⌜ r ≡ cut-at-0 margin ⌝ }
+{
+    cut(i64::from(margin))
+}
+
+// How far a flow with these margins lies beyond its limits.
+fn beyond(forward: i32, backward: i32) -> i64
+    ensures { λ r. ⌜ r ≡ cut-at-0 (negℤ (minZ forward backward)) ⌝ }
+{
+    cut(-i64::from(forward.min(backward)))
+}
+
+// The overrun of a cable after a sheet below its flow, and what may be traded over it forward and backward.
+fn derated_cable() -> Result<[i64; 3], Unworked>
+    ensures { λ r. ⌜ Cases r (λ figures. figures ≡ expected-cable) (λ _. ⊥) ⌝ }
+{
+    let mut border = cable();
+    border.reassess(&cable_sheet(500, 500), 1)?;
+    border.take(1, 400)?;
+    border.reassess(&cable_sheet(300, 500), 1)?;
+    let forward = border.forward_margin(1);
+    let backward = border.backward_margin(1);
+    Ok([beyond(forward, backward), tradable(forward), tradable(backward)])
+}
+
+// What may be traded over a ramp beside a period with a take.
+fn beside_a_take() -> Result<[i64; 2], Unworked>
+    ensures { λ r. ⌜ Cases r (λ figures. figures ≡ expected-ramp) (λ _. ⊥) ⌝ }
+{
+    let wide = wide_sheet();
+    let mut below = given();
+    below.reassess(&wide, 4)?;
+    below.reassess(&wide, 5)?;
+    let Ok(mut border) = Ramp::new(200, below) else {
+        return Err(Unworked::Rate);
+    };
+    border.take(5, 200)?;
+    Ok([
+        tradable(border.forward_margin(4)),
+        tradable(border.backward_margin(4)),
+    ])
+}
+
 /// The worked figures, in order.
-pub fn worked() -> Result<[i64; 13], FigureFault>
+pub fn worked() -> Result<[i64; 18], Unworked>
     ensures { λ r. ⌜ Cases r (λ figures. Given-by rules figures × (figures ≡ expected)) (λ _. ⊥) ⌝ }
 {
     let [m1, m2, m3, m4] = margins()?;
     let [r1, r2] = reserves()?;
     let [s1, s2, s3, s4] = settlements();
     let [l1, l2, l3] = line_figures();
-    Ok([m1, m2, m3, m4, r1, r2, s1, s2, s3, s4, l1, l2, l3])
+    let [c1, c2, c3] = derated_cable()?;
+    let [b1, b2] = beside_a_take()?;
+    Ok([
+        m1, m2, m3, m4, r1, r2, s1, s2, s3, s4, l1, l2, l3, c1, c2, c3, b1, b2,
+    ])
 }

@@ -8,4 +8,6 @@ returns c =
     let r = c .in-Continue-r1 .ensures tt in
     let s = c .settlements .ensures in
     let l = c .line-figures .ensures in
-    simp (m, r, s, l) (figures-follow, refl)
+    let b = c .in-Continue-c1 .ensures tt in
+    let k = c .in-Continue-b1 .ensures tt in
+    simp (m, r, s, l, b, k) (figures-follow, refl)
