@@ -1,24 +1,35 @@
 // Borders at the edges of their ranges and of their day.
 use crate::shut::Shut;
 use crate::shut::ShutBorder;
+use borders::Bank;
 use borders::Border;
 use borders::BorderFault;
 use borders::BorderFaultDebug as _;
 use borders::BorderFaultPartialEq as _;
+use borders::NoBorders;
+use borders::Over;
+use borders::Pair;
 use borders::Ramp;
-use borders::ramp::RampBorder;
 use borders::Sheet;
+use borders::bank::NoBordersBank;
+use borders::bank::PairBank;
+use borders::ramp::RampBorder;
+use borders::ramp::RampOver;
 use equations::Side;
+use kinds::Cable;
 use kinds::Given;
+use kinds::Line;
+use kinds::Made;
+use kinds::Settlement;
 use kinds::Sheeted;
-use kinds::cable;
-use kinds::given;
 use kinds::kind::CableKind;
 use kinds::kind::GivenKind;
 use kinds::kind::LineKind;
 use kinds::kind::SettlementKind;
-use kinds::line;
-use kinds::settlement;
+use kinds::makes::CableMade;
+use kinds::makes::GivenMade;
+use kinds::makes::LineMade;
+use kinds::makes::SettlementMade;
 use kinds::sheeted::SheetedBorder;
 use std::test::*;
 
@@ -66,10 +77,10 @@ fn tests_of_sheets() -> Result<(), Fail> {
         Row(20_000, 20_000, 0, 0, 10_000, 0, line_only),
         Row(20_000, 20_000, 0, 0, 10_001, 0, no),
     ];
-    let cable = cable();
-    let settlement = settlement();
-    let wire = line();
-    let given = given();
+    let cable = Sheeted::<Cable>::make();
+    let settlement = Sheeted::<Settlement>::make();
+    let wire = Sheeted::<Line>::make();
+    let given = Sheeted::<Given>::make();
     for Row(first, second, margin, reserve, power_flow, circuits, passes) in table {
         let side = Side {
             first,
@@ -98,7 +109,7 @@ fn tests_of_sheets() -> Result<(), Fail> {
 
 // A given border with limits of 20,000 both ways in every period.
 fn wide() -> Result<Sheeted<Given>, Fail> {
-    let mut border = given();
+    let mut border = Sheeted::<Given>::make();
     for period in 1..25 {
         border.reassess(&sheet(20_000, 0), period)?;
     }
@@ -140,7 +151,7 @@ fn ramp_at_the_ends_of_the_day() -> Result<(), Fail> {
 
 #[test]
 fn overrun_after_a_derating() -> Result<(), Fail> {
-    let mut cable = cable();
+    let mut cable = Sheeted::<Cable>::make();
     let mut less = sheet(500, 500);
     cable.reassess(&less, 3)?;
     cable.take(3, 400)?;
@@ -179,4 +190,59 @@ fn ramp_over_a_ramp() -> Result<(), Fail> {
         check_eq(refused.told().number, 8)?;
     }
     Ok(())
+}
+
+#[test]
+fn limits_follow_the_sheet() -> Result<(), Fail> {
+    let mut settlement = Sheeted::<Settlement>::make();
+    let mut s = sheet(500, 500);
+    s.circuits = 1;
+    settlement.reassess(&s, 24)?;
+    check_eq(settlement.forward_margin(24), 485)?;
+    check_eq(settlement.backward_margin(24), 492)?;
+    let mut line = Sheeted::<Line>::make();
+    let side = Side {
+        first: 700,
+        second: 1_000,
+        margin: 60,
+        reserve: 247,
+    };
+    let mut now = Sheet {
+        forward: side,
+        backward: side,
+        power_flow: 0,
+        circuits: 0,
+    };
+    line.reassess(&now, 1)?;
+    line.take(1, 300)?;
+    // in the direction of the flow 537 of 887 - 350 and 887 - 300 + 60, against it 887 + 350
+    now.power_flow = 350;
+    line.reassess(&now, 1)?;
+    check_eq(line.forward_margin(1), 537)?;
+    check_eq(line.backward_margin(1), 1_237)
+}
+
+#[test]
+fn borders_of_different_makes() -> Result<(), Fail> {
+    let Ok(shut) = Ramp::new(1, Shut) else {
+        return Err(Fail::new("rate refused"));
+    };
+    let mut bank = Pair {
+        first: shut,
+        rest: Pair {
+            first: wide()?,
+            rest: NoBorders,
+        },
+    };
+    check_eq(bank.count(), 2)?;
+    for (border, answer) in [(0, 0), (1, 0), (2, 20_000), (3, 0)] {
+        let Err(fault) = bank.take(border, 7, 20_001) else {
+            return Err(Fail::new("taken"));
+        };
+        check_eq(fault.border, border)?;
+        check_eq(fault.period, 7)?;
+        check_eq(fault.cause, BorderFault::Take(answer))?;
+    }
+    check(bank.take(2, 7, 20_000).is_ok())?;
+    check_eq(bank.flow(2, 7), 20_000)
 }

@@ -9,6 +9,7 @@ pub use bank::NoBorders;
 pub use bank::Pair;
 pub use border::Border;
 use equations::Side;
+pub use ramp::Over;
 pub use ramp::Ramp;
 pub use ramp::RateRefused;
 

@@ -38,19 +38,25 @@ impl<B> RateRefused<B> {
     }
 }
 
-impl<B: Border> Ramp<B> {
+/// A border that stands over another and caps its limits by a rate.
+pub trait Over<B: Border>: Border {
     /// A ramp over a border, or the refusal of its rate.
-    pub fn new(rate: i32, below: B) -> Result<Self, RateRefused<B>>
+    fn new(rate: i32, below: B) -> Result<Self, RateRefused<B>>
         ensures { λ r. ⌜ Cases r
-            (λ b. Rate rate × (ramped (b .rate) (B·Border .meaning (b .below)) ≡ ramped rate (B·Border .meaning below)))
-            (λ e. (Rate rate → ⊥) × (e .below ≡ below)) ⌝ }
-    {
+            (λ b. Rate rate × (Self·Border .meaning b ≡ ramped rate (B·Border .meaning below)))
+            (λ e. (Rate rate → ⊥) × (e .below ≡ below)) ⌝ };
+}
+
+pub impl<B: Border> Over<B> for Ramp<B> as RampOver {
+    fn new(rate: i32, below: B) -> Result<Ramp<B>, RateRefused<B>> {
         if rate < 1 || rate > 20_000 {
             return Err(RateRefused { below });
         }
         Ok(Ramp { rate, below })
     }
+}
 
+impl<B: Border> Ramp<B> {
     // An upper limit, as the neighbour q caps it.
     fn capped(&self, q: i32, limit: i32) -> i32
         ensures { λ r. ⌜ r ≡ capped-by (now (self .entry) .rate) (B·Border .meaning (now (self .entry) .below) .schedule) q limit ⌝ }

@@ -8,9 +8,11 @@ ghost use Rattle.equations.specs.declared.capacity.Direction.the-variants.{Forw
 ghost use Rattle.figures.specs.Worked.{Given-by, rules, expected, expected-margins, expected-reserves, expected-settlements, expected-lines, expected-cable, expected-ramp, cable-sheet, wide-sheet, two-capacities, full-source};
 use borders::Border;
 use borders::BorderFault;
+use borders::Over;
 use borders::Ramp;
 use borders::Sheet;
 use borders::ramp::RampBorder;
+use borders::ramp::RampOver;
 use equations::Direction;
 use equations::FigureFault;
 use equations::Formula;
@@ -21,10 +23,14 @@ use equations::cut;
 use equations::margin;
 use equations::reserve;
 use equations::uncut_ntc;
-use kinds::cable;
-use kinds::given;
+use kinds::Cable;
+use kinds::Given;
+use kinds::Made;
+use kinds::Sheeted;
 use kinds::kind::CableKind;
 use kinds::kind::GivenKind;
+use kinds::makes::CableMade;
+use kinds::makes::GivenMade;
 use kinds::sheeted::SheetedBorder;
 
 /// Why a figure could not be worked out, which never happens.
@@ -176,13 +182,17 @@ fn beyond(forward: i32, backward: i32) -> i64
 fn derated_cable() -> Result<[i64; 3], Unworked>
     ensures { λ r. ⌜ Cases r (λ figures. figures ≡ expected-cable) (λ _. ⊥) ⌝ }
 {
-    let mut border = cable();
+    let mut border = Sheeted::<Cable>::make();
     border.reassess(&cable_sheet(500, 500), 1)?;
     border.take(1, 400)?;
     border.reassess(&cable_sheet(300, 500), 1)?;
     let forward = border.forward_margin(1);
     let backward = border.backward_margin(1);
-    Ok([beyond(forward, backward), tradable(forward), tradable(backward)])
+    Ok([
+        beyond(forward, backward),
+        tradable(forward),
+        tradable(backward),
+    ])
 }
 
 // What may be traded over a ramp beside a period with a take.
@@ -190,7 +200,7 @@ fn beside_a_take() -> Result<[i64; 2], Unworked>
     ensures { λ r. ⌜ Cases r (λ figures. figures ≡ expected-ramp) (λ _. ⊥) ⌝ }
 {
     let wide = wide_sheet();
-    let mut below = given();
+    let mut below = Sheeted::<Given>::make();
     below.reassess(&wide, 4)?;
     below.reassess(&wide, 5)?;
     let Ok(mut border) = Ramp::new(200, below) else {
@@ -214,6 +224,23 @@ pub fn worked() -> Result<[i64; 18], Unworked>
     let [c1, c2, c3] = derated_cable()?;
     let [b1, b2] = beside_a_take()?;
     Ok([
-        m1, m2, m3, m4, r1, r2, s1, s2, s3, s4, l1, l2, l3, c1, c2, c3, b1, b2,
+        m1,
+        m2,
+        m3,
+        m4,
+        r1,
+        r2,
+        s1,
+        s2,
+        s3,
+        s4,
+        l1,
+        l2,
+        l3,
+        c1,
+        c2,
+        c3,
+        b1,
+        b2,
     ])
 }

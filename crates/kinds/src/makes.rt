@@ -1,5 +1,6 @@
-//! Borders of the four kinds, with flows and limits 0.
+//! New borders of the four kinds, told by name: each means a border with that kind's test and limits, with flows and limits 0.
 ghost use mathlib.Core.Path.{_≡_};
+ghost use Rattle.borders.specs.Border.{Meaning};
 ghost use Rattle.kinds.specs.Kinds.{plain-upper, plain-lower, cable-test, cable-formula, settlement-test, settlement-formula, given-test, given-formula, line-test, line-upper, line-lower};
 ghost use Rattle.kinds.specs.Sheets.{stated-by, sheeted, idle};
 use crate::Cable;
@@ -11,31 +12,46 @@ use crate::kind::CableKind;
 use crate::kind::GivenKind;
 use crate::kind::LineKind;
 use crate::kind::SettlementKind;
+use crate::sheeted::SheetedBorder;
+use borders::Border;
 
-/// A cable.
-pub fn cable() -> Sheeted<Cable>
-    ensures { λ r. ⌜ sheeted (stated-by cable-test (plain-lower cable-formula) (plain-upper cable-formula)) (r .flows) (r .lower) (r .upper) ≡ sheeted (stated-by cable-test (plain-lower cable-formula) (plain-upper cable-formula)) idle idle idle ⌝ }
-{
-    Sheeted::new(Cable)
+/// A border that is made from nothing.
+pub trait Made: Border {
+    ghost made: { Meaning };
+
+    /// A new one.
+    fn make() -> Self
+        ensures { λ r. ⌜ Self·Border .meaning r ≡ made ⌝ };
 }
 
-/// A settlement border.
-pub fn settlement() -> Sheeted<Settlement>
-    ensures { λ r. ⌜ sheeted (stated-by settlement-test (plain-lower settlement-formula) (plain-upper settlement-formula)) (r .flows) (r .lower) (r .upper) ≡ sheeted (stated-by settlement-test (plain-lower settlement-formula) (plain-upper settlement-formula)) idle idle idle ⌝ }
-{
-    Sheeted::new(Settlement)
+pub impl Made for Sheeted<Cable> as CableMade {
+    ghost made = { sheeted (stated-by cable-test (plain-lower cable-formula) (plain-upper cable-formula)) idle idle idle };
+
+    fn make() -> Sheeted<Cable> {
+        Sheeted::new(Cable)
+    }
 }
 
-/// A line.
-pub fn line() -> Sheeted<Line>
-    ensures { λ r. ⌜ sheeted (stated-by line-test line-lower line-upper) (r .flows) (r .lower) (r .upper) ≡ sheeted (stated-by line-test line-lower line-upper) idle idle idle ⌝ }
-{
-    Sheeted::new(Line)
+pub impl Made for Sheeted<Settlement> as SettlementMade {
+    ghost made = { sheeted (stated-by settlement-test (plain-lower settlement-formula) (plain-upper settlement-formula)) idle idle idle };
+
+    fn make() -> Sheeted<Settlement> {
+        Sheeted::new(Settlement)
+    }
 }
 
-/// A border with given capacities.
-pub fn given() -> Sheeted<Given>
-    ensures { λ r. ⌜ sheeted (stated-by given-test (plain-lower given-formula) (plain-upper given-formula)) (r .flows) (r .lower) (r .upper) ≡ sheeted (stated-by given-test (plain-lower given-formula) (plain-upper given-formula)) idle idle idle ⌝ }
-{
-    Sheeted::new(Given)
+pub impl Made for Sheeted<Line> as LineMade {
+    ghost made = { sheeted (stated-by line-test line-lower line-upper) idle idle idle };
+
+    fn make() -> Sheeted<Line> {
+        Sheeted::new(Line)
+    }
+}
+
+pub impl Made for Sheeted<Given> as GivenMade {
+    ghost made = { sheeted (stated-by given-test (plain-lower given-formula) (plain-upper given-formula)) idle idle idle };
+
+    fn make() -> Sheeted<Given> {
+        Sheeted::new(Given)
+    }
 }
