@@ -1,4 +1,4 @@
-//! A ramp over any border: neighbouring periods differ by no more than its rate.
+//! A ramp over any border: no take and no adoption moves a period further than its rate from a neighbouring one.
 ghost use mathlib.Core.Path.{_≡_};
 ghost use denote.Ref.{now};
 ghost use lib.IntN.{pos};

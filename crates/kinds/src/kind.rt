@@ -6,7 +6,7 @@ ghost use lib.IntN.{ℤ, negℤ};
 ghost use Rattle.equations.specs.Capacities.{net-capacity};
 ghost use Rattle.equations.specs.declared.capacity.Direction.the-variants.{Forward as Onward, Backward as Return};
 ghost use Rattle.equations.specs.Ranges.{Near};
-ghost use Rattle.borders.specs.declared.Sheet.{Sheet as Paper};
+ghost use Rattle.borders.specs.declared.Sheet.{Sheet as Figures};
 ghost use Rattle.borders.specs.Limits.{Limited};
 ghost use Rattle.kinds.specs.Kinds.{none, amount, two-used, one-used, all-used, plain-upper, plain-lower, cable-test, cable-formula, settlement-test, settlement-formula, given-test, given-formula, line-ranges, line-test, line-upper, line-lower};
 use borders::Sheet;
@@ -19,14 +19,14 @@ use equations::uncut_ntc;
 
 /// A kind of border: which sheets pass its test, and the limits that a sheet gives, with the flow at its acceptance.
 pub trait Kind {
-    ghost test: { Paper → ℤ → Bool };
+    ghost test: { Figures → ℤ → Bool };
 
-    ghost highest: { Paper → ℤ → ℤ };
+    ghost highest: { Figures → ℤ → ℤ };
 
-    ghost lowest: { Paper → ℤ → ℤ };
+    ghost lowest: { Figures → ℤ → ℤ };
 
     // the limits of a sheet that passes lie within bounds
-    law bounded: { (t : Paper) (a : ℤ) → Near 30000 a → test t a ≡ true → Limited (lowest t a) (highest t a) };
+    law bounded: { (t : Figures) (a : ℤ) → Near 30000 a → test t a ≡ true → Limited (lowest t a) (highest t a) };
 
     fn accepts(&self, sheet: &Sheet, flow: i32) -> bool
         ensures { λ r. ⌜ r ≡ test (now (sheet .entry)) flow ⌝ };
