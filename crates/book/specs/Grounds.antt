@@ -10,7 +10,7 @@ use Rattle.borders.specs.declared.BorderFault.TheVariants.{Adopt, Reassess}
 use Rattle.borders.specs.declared.bank.BankFault.{BankFault}
 use Rattle.zones.specs.Sums.{total}
 use Rattle.zones.specs.Ways.{sum_behind}
-use Rattle.log.specs.Entries.{capacity_of}
+use Rattle.logs.specs.Entries.{capacity_of}
 use Rattle.equations.specs.Grounds.{tells}
 use Rattle.equations.specs.declared.fault.Told.{Told}
 use Rattle.book.specs.Faults.{told, place_of}

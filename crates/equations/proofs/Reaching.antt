@@ -21,7 +21,7 @@ more_of : (a : ℤ) (k n : ℕ) → (a +ℤ pos k) *ℤ pos n ≡ a *ℤ pos n +
 more_of a zero n = ap (λ (x : ℤ). x *ℤ pos n) (+ℤ_idr a) ∙ omega (arith, ints)
 more_of a (suc k) n =
     ap (λ (x : ℤ). x *ℤ pos n) (+ℤ-suc_ℤ a (pos k))
-    ∙ suc_ℤ_*ℤ (a +ℤ pos k) (pos n)
+    ∙ suc_ℤ-*ℤ (a +ℤ pos k) (pos n)
     ∙ (let e = more_of a k n in omega (arith, ints))
 
 excess_more : (n k : ℕ) (S u : ℤ) → excess (pos n) S (u +ℤ pos k) ≡ excess (pos n) S u +ℤ pos (2 * k * n)

@@ -23,20 +23,20 @@ times_sum : (d e s : ℤ) → d *ℤ (e +ℤ s) ≡ d *ℤ e +ℤ d *ℤ s
 times_sum (pos zero) e s = omega (arith, ints)
 times_sum (pos (suc n)) e s =
     let i = times_sum (pos n) e s in
-    let p = suc_ℤ_*ℤ (pos n) (e +ℤ s) in
-    let q = suc_ℤ_*ℤ (pos n) e in
-    let r = suc_ℤ_*ℤ (pos n) s in
+    let p = suc_ℤ-*ℤ (pos n) (e +ℤ s) in
+    let q = suc_ℤ-*ℤ (pos n) e in
+    let r = suc_ℤ-*ℤ (pos n) s in
     omega (arith, ints)
 times_sum (negsuc zero) e s =
-    let p = pred_ℤ_*ℤ (pos zero) (e +ℤ s) in
-    let q = pred_ℤ_*ℤ (pos zero) e in
-    let r = pred_ℤ_*ℤ (pos zero) s in
+    let p = pred_ℤ-*ℤ (pos zero) (e +ℤ s) in
+    let q = pred_ℤ-*ℤ (pos zero) e in
+    let r = pred_ℤ-*ℤ (pos zero) s in
     omega (arith, ints)
 times_sum (negsuc (suc n)) e s =
     let i = times_sum (negsuc n) e s in
-    let p = pred_ℤ_*ℤ (negsuc n) (e +ℤ s) in
-    let q = pred_ℤ_*ℤ (negsuc n) e in
-    let r = pred_ℤ_*ℤ (negsuc n) s in
+    let p = pred_ℤ-*ℤ (negsuc n) (e +ℤ s) in
+    let q = pred_ℤ-*ℤ (negsuc n) e in
+    let r = pred_ℤ-*ℤ (negsuc n) s in
     omega (arith, ints)
 
 square_of_sum : (d s : ℤ) → (d +ℤ s) *ℤ (d +ℤ s) ≡ d *ℤ d +ℤ pos 2 *ℤ (d *ℤ s) +ℤ s *ℤ s
@@ -66,7 +66,7 @@ cross d (e ∷ ds) =
     let i = cross d ds in
     let p = pair d e in
     let q = times_sum d e (sum_of ds) in
-    let r = suc_ℤ_*ℤ (pos (length ds)) (d *ℤ d) in
+    let r = suc_ℤ-*ℤ (pos (length ds)) (d *ℤ d) in
     omega (arith, ints)
 
 -- S S ≤ n Q
@@ -77,6 +77,6 @@ square_covered (d ∷ ds) =
     let i = square_covered ds in
     let x = cross d ds in
     let s = square_of_sum d (sum_of ds) in
-    let r = suc_ℤ_*ℤ (pos (length ds)) (d *ℤ d +ℤ squares_of ds) in
+    let r = suc_ℤ-*ℤ (pos (length ds)) (d *ℤ d +ℤ squares_of ds) in
     let t = times_sum (pos (length ds)) (d *ℤ d) (squares_of ds) in
     omega (arith, ints)

@@ -19,7 +19,7 @@ line_out_of_bounds (Entry n) = n
 
 -- what is told of the line with the number n
 abbrev pub told_at : ℕ → Told → Refusal
-told_at n why = record { line = n; ground = why }
+told_at n why = record { line = n; told = why }
 
 -- by case, what a fault tells; want of memory tells nothing of the file
 abbrev pub fault_told : SampleFault → Option Refusal

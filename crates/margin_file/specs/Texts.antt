@@ -21,7 +21,7 @@ sample_text s = fields (codes "ok" ∷ decimal s.count ∷ signed_decimal s.marg
 
 -- no,LINE,NUMBER,PLACE,PERIOD
 abbrev pub refusal_text : Refusal → List ℕ
-refusal_text r = fields (codes "no" ∷ decimal r.line ∷ decimal r.ground.number ∷ signed_decimal r.ground.place ∷ signed_decimal r.ground.period ∷ [])
+refusal_text r = fields (codes "no" ∷ decimal r.line ∷ decimal r.told.number ∷ signed_decimal r.told.place ∷ signed_decimal r.told.period ∷ [])
 
 -- what the fault tells of the file, or that memory was wanting
 abbrev pub fault_text : SampleFault → List ℕ

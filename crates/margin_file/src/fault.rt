@@ -23,7 +23,7 @@ pub enum SampleFault {
 #[derive(Clone, Copy)]
 pub struct Refusal {
     pub line: u32,
-    pub ground: Told,
+    pub told: Told,
 }
 
 impl From<FigureFault> for SampleFault {
@@ -58,17 +58,17 @@ impl SampleFault {
         match self {
             SampleFault::Unreadable { line, long } => Some(Refusal {
                 line: *line,
-                ground: Told {
+                told: Told {
                     number: 1,
                     place: if *long { 0 } else { 1 },
                     period: 0,
                 },
             }),
             SampleFault::Refused(fault) => {
-                let ground = fault.told();
+                let told = fault.told();
                 Some(Refusal {
-                    line: ground.place as u32,
-                    ground,
+                    line: told.place as u32,
+                    told,
                 })
             }
             SampleFault::Memory => None,
@@ -85,7 +85,7 @@ impl fmt::Display for Refusal {
             number,
             place,
             period,
-        } = self.ground;
+        } = self.told;
         write!(f, "no,{line},{number},{place},{period}")
     }
 }

@@ -8,7 +8,7 @@ use Rattle.borders.specs.declared.Sheet.{Sheet}
 use Rattle.borders.specs.declared.BorderFault.{BorderFault}
 use Rattle.borders.specs.declared.BorderFault.TheVariants.{Reassess}
 use Rattle.borders.specs.declared.bank.BankFault.{BankFault}
-use Rattle.log.specs.Entries.{capacity_of}
+use Rattle.logs.specs.Entries.{capacity_of}
 use Rattle.book.specs.declared.state.State.{State}
 use Rattle.book.specs.declared.fault.RegionFault.{RegionFault}
 use Rattle.book.specs.declared.fault.RegionFault.TheVariants as fault

@@ -2,7 +2,7 @@
 use Rattle.std.specs.Prelude.{List, ℤ}
 use Rattle.borders.specs.Border.{Meaning}
 use Rattle.zones.specs.Trees.{zones, up}
-use Rattle.log.specs.declared.Log.{Log}
+use Rattle.logs.specs.declared.Log.{Log}
 use Rattle.book.specs.declared.Deal.{Deal}
 use Rattle.book.specs.declared.AcceptedSheet.{AcceptedSheet}
 use Rattle.book.specs.declared.Call.{Call}

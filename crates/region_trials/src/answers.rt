@@ -3,7 +3,7 @@ use crate::setting::{
     STATES, accepted, blank_deal, blank_sheet, bring, of_border, of_zone, sheet, small,
 };
 use book::{Call, State};
-use log::Log;
+use logs::Log;
 use std::process::Abort;
 use std::test::Fail;
 

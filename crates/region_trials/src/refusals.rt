@@ -1,7 +1,7 @@
 // Every ground that these calls have, in every state.
 use crate::setting::{STATES, accepted, blank_deal, blank_sheet, in_state, sheet, small, told};
 use book::Call;
-use log::Log;
+use logs::Log;
 use std::process::Abort;
 use std::test::Fail;
 

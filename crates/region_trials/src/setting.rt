@@ -3,7 +3,7 @@ use book::{AcceptedSheet, Answer, Call, Deal, State};
 use borders::{NoBorders, Pair, Sheet};
 use equations::Side;
 use kinds::{Cable, Line, Made, Sheeted};
-use log::Log;
+use logs::Log;
 use region::Region;
 use std::process::Abort;
 use std::test::Fail;

@@ -1,5 +1,5 @@
 // Logs in memory that the caller lends.
-use log::{Log, LogFull};
+use logs::{Log, LogFull};
 
 #[test]
 fn log_without_memory(rt: HostRuntime) {

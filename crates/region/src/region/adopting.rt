@@ -1,6 +1,6 @@
 //! The adoption of the staged positions.
 ghost use Rattle.std.specs.Prelude.{◌≡◌, ℕ, ◌<◌, ◌≤◌, pos, ◌+ℤ◌, ◌≤ℤ◌, MatchResult};
-ghost use Rattle.log.specs.declared.Log.{Log as LogOf};
+ghost use Rattle.logs.specs.declared.Log.{Log as LogOf};
 ghost use Rattle.book.specs.declared.Deal.{Deal as DealOf};
 ghost use Rattle.book.specs.declared.AcceptedSheet.{AcceptedSheet as SheetOf};
 ghost use Rattle.zones.specs.Trees.{zones, up};

@@ -1,7 +1,7 @@
 //! What a region is asked.
 ghost use Rattle.std.specs.Prelude.{◌≡◌, ◌<◌, pos, ◌+ℤ◌, ◌≤ℤ◌};
 ghost use Rattle.std.specs.Int.{int_max};
-ghost use Rattle.log.specs.declared.Log.{Log as LogOf};
+ghost use Rattle.logs.specs.declared.Log.{Log as LogOf};
 ghost use Rattle.book.specs.declared.Deal.{Deal as DealOf};
 ghost use Rattle.book.specs.declared.AcceptedSheet.{AcceptedSheet as SheetOf};
 ghost use Rattle.zones.specs.Trees.{zones, up};

@@ -1,6 +1,6 @@
 //! The calls that touch neither borders nor logs.
 ghost use Rattle.std.specs.Prelude.{◌≡◌};
-ghost use Rattle.log.specs.declared.Log.{Log as LogOf};
+ghost use Rattle.logs.specs.declared.Log.{Log as LogOf};
 ghost use Rattle.book.specs.declared.Deal.{Deal as DealOf};
 ghost use Rattle.book.specs.declared.AcceptedSheet.{AcceptedSheet as SheetOf};
 ghost use Rattle.book.specs.Calls.{CallDid, OnlyStateJudged};

@@ -6,7 +6,7 @@ ghost use Rattle.region.specs.Seen.{seen};
 use super::Region;
 use book::{AcceptedSheet, Answer, Call, Deal, RegionFault};
 use borders::Bank;
-use log::Log;
+use logs::Log;
 
 impl<B: Bank> Region<B> {
     /// Makes a call. It is refused exactly if one of its grounds holds, with the first of them, and then nothing is altered.

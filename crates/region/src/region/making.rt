@@ -1,6 +1,6 @@
 //! Making a region.
 ghost use Rattle.std.specs.Prelude.{◌≡◌, ℕ, ◌<◌, ◌≤◌, MatchOption, MatchResult};
-ghost use Rattle.log.specs.declared.Log.{Log as LogOf};
+ghost use Rattle.logs.specs.declared.Log.{Log as LogOf};
 ghost use Rattle.book.specs.declared.Deal.{Deal as DealOf};
 ghost use Rattle.book.specs.declared.AcceptedSheet.{AcceptedSheet as SheetOf};
 ghost use Rattle.borders.specs.Bank.{border_at};

@@ -1,6 +1,6 @@
 //! A new sheet for a border and period.
 ghost use Rattle.std.specs.Prelude.{◌≡◌, Decides};
-ghost use Rattle.log.specs.declared.Log.{Log as LogOf};
+ghost use Rattle.logs.specs.declared.Log.{Log as LogOf};
 ghost use Rattle.book.specs.declared.Deal.{Deal as DealOf};
 ghost use Rattle.book.specs.Grounds.{FlowsEarly};
 ghost use Rattle.book.specs.Calls.{CallDid};
@@ -9,7 +9,7 @@ ghost use Rattle.region.specs.Seen.{seen, sheet_call};
 use super::Region;
 use book::{AcceptedSheet, Answer, Call, RegionFault, State};
 use borders::{Bank, Sheet};
-use log::Log;
+use logs::Log;
 
 // Whether a sheet has a power flow though no result has been adopted.
 fn flows_early(sheet: &Sheet, state: State) -> bool

@@ -10,9 +10,9 @@ returns-in-Cable c =
     let t = c.args.side.now in
     let f1 : SFits w32 t.first = search rules in
     let f2 : SFits w32 t.second = search rules in
-    let r1 : SFits w64 c.from-first.result = record { sfits = c.from-first.type-inv } in
-    let r2 : SFits w64 c.from-second.result = record { sfits = c.from-second.type-inv } in
-    let r3 : SFits w64 c.min.result = record { sfits = c.min.type-inv } in
+    let r1 : SFits w64 c.from-first.result = record { sfits = c.from-first.type_inv } in
+    let r2 : SFits w64 c.from-second.result = record { sfits = c.from-second.type_inv } in
+    let r3 : SFits w64 c.min.result = record { sfits = c.min.type_inv } in
     let e1 = simp to_z-of_z at c.from-first.ensures in
     let e2 = simp to_z-of_z at c.from-second.ensures in
     let e3 = simp to_z-of_z at c.min.ensures.value in
@@ -25,19 +25,19 @@ returns-in-Settlement c =
     let f1 : SFits w32 t.first = search rules in
     let f2 : SFits w32 t.second = search rules in
     let fc : SFits w32 c.in-Settlement.circuits = search rules in
-    let r1 : SFits w64 c.from-first.result = record { sfits = c.from-first.type-inv } in
-    let r2 : SFits w64 c.from-second.result = record { sfits = c.from-second.type-inv } in
-    let r3 : SFits w64 c.settled.result = record { sfits = c.settled.type-inv } in
-    let r4 : SFits w64 c.settled-in-Settlement.result = record { sfits = c.settled-in-Settlement.type-inv } in
-    let r5 : SFits w64 c.min-in-Settlement.result = record { sfits = c.min-in-Settlement.type-inv } in
-    let r6 : SFits w64 c.cap-of.result = record { sfits = c.cap-of.type-inv } in
-    let r7 : SFits w64 c.min-in-Settlement-2.result = record { sfits = c.min-in-Settlement-2.type-inv } in
+    let r1 : SFits w64 c.from-first.result = record { sfits = c.from-first.type_inv } in
+    let r2 : SFits w64 c.from-second.result = record { sfits = c.from-second.type_inv } in
+    let r3 : SFits w64 c.settled.result = record { sfits = c.settled.type_inv } in
+    let r4 : SFits w64 c.settled-in-Settlement.result = record { sfits = c.settled-in-Settlement.type_inv } in
+    let r5 : SFits w64 c.min-in-Settlement.result = record { sfits = c.min-in-Settlement.type_inv } in
+    let r6 : SFits w64 c.cap_of.result = record { sfits = c.cap_of.type_inv } in
+    let r7 : SFits w64 c.min-in-Settlement-2.result = record { sfits = c.min-in-Settlement-2.type_inv } in
     let e1 = simp to_z-of_z at c.from-first.ensures in
     let e2 = simp to_z-of_z at c.from-second.ensures in
     let e3 = simp to_z-of_z at c.settled.ensures in
     let e4 = simp to_z-of_z at c.settled-in-Settlement.ensures in
     let e5 = simp to_z-of_z at c.min-in-Settlement.ensures.value in
-    let e6 = simp to_z-of_z at c.cap-of.ensures in
+    let e6 = simp to_z-of_z at c.cap_of.ensures in
     let e7 = simp to_z-of_z at c.min-in-Settlement-2.ensures.value in
     let e : c.min-in-Settlement-2.result ≡ int_min (int_min (settled_capacity t.first) (settled_capacity t.second)) (circuit_cap c.args.direction c.in-Settlement.circuits) = cc in
     rw (c.in-Settlement.is, to_z-of_z w64 c.min-in-Settlement-2.result r7) record { value = e; near = rw e (settlement_small t.first t.second c.args.direction c.in-Settlement.circuits f1 f2) }
@@ -49,10 +49,10 @@ returns-in-Line c =
     let f2 : SFits w32 t.second = search rules in
     let f3 : SFits w32 t.margin = search rules in
     let f4 : SFits w32 t.reserve = search rules in
-    let r1 : SFits w64 c.from-first.result = record { sfits = c.from-first.type-inv } in
-    let r2 : SFits w64 c.from-second.result = record { sfits = c.from-second.type-inv } in
-    let r3 : SFits w64 c.from-margin.result = record { sfits = c.from-margin.type-inv } in
-    let r4 : SFits w64 c.from.result = record { sfits = c.from.type-inv } in
+    let r1 : SFits w64 c.from-first.result = record { sfits = c.from-first.type_inv } in
+    let r2 : SFits w64 c.from-second.result = record { sfits = c.from-second.type_inv } in
+    let r3 : SFits w64 c.from-margin.result = record { sfits = c.from-margin.type_inv } in
+    let r4 : SFits w64 c.from.result = record { sfits = c.from.type_inv } in
     let e1 : c.from-first.result ≡ t.first = simp to_z-of_z at c.from-first.ensures in
     let e2 : c.from-second.result ≡ t.second = simp to_z-of_z at c.from-second.ensures in
     let e3 : c.from-margin.result ≡ t.margin = simp to_z-of_z at c.from-margin.ensures in
@@ -61,7 +61,7 @@ returns-in-Line c =
     let s1 = k.0 in
     let s2 = k.1 in
     let s3 = k.2 in
-    let fm : SFits w64 c.min-in-Line.result = record { sfits = c.min-in-Line.type-inv } in
+    let fm : SFits w64 c.min-in-Line.result = record { sfits = c.min-in-Line.type_inv } in
     let v = simp to_z-of_z at c.min-in-Line.ensures.value in
     let e : c.min-in-Line.result ≡ int_min (t.first +ℤ t.reserve -ℤ t.margin) (t.second -ℤ t.margin) = simp (e1, e2, e3, e4) at v in
     rw (c.in-Line.is, to_z-of_z w64 c.min-in-Line.result fm) record { value = e; near = rw e (line_small t.first t.second t.margin t.reserve f1 f2 f3 f4) }
@@ -70,6 +70,6 @@ pub returns-in-Given : goal.returns-in-Given
 returns-in-Given c =
     let t = c.args.side.now in
     let f1 : SFits w32 t.first = search rules in
-    let r1 : SFits w64 c.from-first.result = record { sfits = c.from-first.type-inv } in
+    let r1 : SFits w64 c.from-first.result = record { sfits = c.from-first.type_inv } in
     let e1 : c.from-first.result ≡ t.first = simp to_z-of_z at c.from-first.ensures in
     rw (c.in-Given.is, to_z-of_z w64 c.from-first.result r1) record { value = e1; near = rw e1 (given_small t.first f1) }

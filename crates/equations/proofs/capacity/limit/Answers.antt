@@ -20,19 +20,19 @@ backward_is f Backward t a p x y i e d = cc
 pub returns-in-Forward : goal.returns-in-Forward
 returns-in-Forward c =
     let f = c.ranges.flow in
-    let f2 = c.ranges.power-flow in
-    let r1 : SFits w64 c.from.result = record { sfits = c.from.type-inv } in
-    let r2 : SFits w64 c.left-available.result = record { sfits = c.left-available.type-inv } in
+    let f2 = c.ranges.power_flow in
+    let r1 : SFits w64 c.from.result = record { sfits = c.from.type_inv } in
+    let r2 : SFits w64 c.left-available.result = record { sfits = c.left-available.type_inv } in
     let e1 : c.from.result ≡ c.args.flow = simp to_z-of_z at c.from.ensures in
     let k = (limit_fits c.from.result c.left-available.result (subst (SFits w32) (sym e1) f) c.left-available.ensures.near).0 in
-    simp to_z-of_z (forward_is c.args.formula c.args.direction c.args.side.now c.args.flow c.args.power-flow _ _ c.in-Forward.is e1 (simp to_z-of_z at c.left-available.ensures.value))
+    simp to_z-of_z (forward_is c.args.formula c.args.direction c.args.side.now c.args.flow c.args.power_flow _ _ c.in-Forward.is e1 (simp to_z-of_z at c.left-available.ensures.value))
 
 pub returns-in-Backward : goal.returns-in-Backward
 returns-in-Backward c =
     let f = c.ranges.flow in
-    let f2 = c.ranges.power-flow in
-    let r1 : SFits w64 c.from-in-Backward.result = record { sfits = c.from-in-Backward.type-inv } in
-    let r2 : SFits w64 c.left-available.result = record { sfits = c.left-available.type-inv } in
+    let f2 = c.ranges.power_flow in
+    let r1 : SFits w64 c.from-in-Backward.result = record { sfits = c.from-in-Backward.type_inv } in
+    let r2 : SFits w64 c.left-available.result = record { sfits = c.left-available.type_inv } in
     let e1 : c.from-in-Backward.result ≡ c.args.flow = simp to_z-of_z at c.from-in-Backward.ensures in
     let k = (limit_fits c.from-in-Backward.result c.left-available.result (subst (SFits w32) (sym e1) f) c.left-available.ensures.near).1 in
-    simp to_z-of_z (backward_is c.args.formula c.args.direction c.args.side.now c.args.flow c.args.power-flow _ _ c.in-Backward.is e1 (simp to_z-of_z at c.left-available.ensures.value))
+    simp to_z-of_z (backward_is c.args.formula c.args.direction c.args.side.now c.args.flow c.args.power_flow _ _ c.in-Backward.is e1 (simp to_z-of_z at c.left-available.ensures.value))

@@ -27,23 +27,23 @@ fitting count sum t d hc hs ht e =
     between : (x y : ℤ) → Near (20001 * 44640) x → Near 100000000 y → Near 2000000000 (x -ℤ pos 2 *ℤ y)
     between x y hx hy = (omega (arith, ints), omega (arith, ints))
 
-edge : (c : goal.After-doubled-edge) → c.doubled-edge.result ≡ pos 2 *ℤ c.args.t -ℤ pos 1
-edge c = let f = c.ranges.t in simp to_z-of_z at c.doubled-edge.ensures
+edge : (c : goal.After-doubled_edge) → c.doubled_edge.result ≡ pos 2 *ℤ c.args.t -ℤ pos 1
+edge c = let f = c.ranges.t in simp to_z-of_z at c.doubled_edge.ensures
 
-given : (c : goal.After-doubled-edge) → Fitting c.args.count c.args.sum c.doubled-edge.result
-given c = fitting c.args.count c.args.sum c.args.t c.doubled-edge.result c.requires.near.0 c.requires.near.1 c.requires.near.2 (edge c)
+given : (c : goal.After-doubled_edge) → Fitting c.args.count c.args.sum c.doubled_edge.result
+given c = fitting c.args.count c.args.sum c.args.t c.doubled_edge.result c.requires.near.0 c.requires.near.1 c.requires.near.2 (edge c)
 
-pub overflow-mul-result : goal.overflow-mul-result
-overflow-mul-result c =
+pub overflow_mul-result : goal.overflow_mul-result
+overflow_mul-result c =
     let f1 = c.ranges.count in
-    let r : SFits w64 c.doubled-edge.result = record { sfits = c.doubled-edge.type-inv } in
+    let r : SFits w64 c.doubled_edge.result = record { sfits = c.doubled_edge.type_inv } in
     simp to_z-of_z (given c).scaled
 
-pub overflow-sub-result : goal.overflow-sub-result
-overflow-sub-result c =
+pub overflow_sub-result : goal.overflow_sub-result
+overflow_sub-result c =
     let f1 = c.ranges.count in
     let f2 = c.ranges.sum in
-    let r : SFits w64 c.doubled-edge.result = record { sfits = c.doubled-edge.type-inv } in
+    let r : SFits w64 c.doubled_edge.result = record { sfits = c.doubled_edge.type_inv } in
     let k = given c in
     let k1 = k.scaled in
     let k2 = k.doubled in
@@ -53,7 +53,7 @@ pub returns : goal.returns
 returns c =
     let f1 = c.ranges.count in
     let f2 = c.ranges.sum in
-    let r : SFits w64 c.doubled-edge.result = record { sfits = c.doubled-edge.type-inv } in
+    let r : SFits w64 c.doubled_edge.result = record { sfits = c.doubled_edge.type_inv } in
     let k = given c in
     let k1 = k.scaled in
     let k2 = k.doubled in

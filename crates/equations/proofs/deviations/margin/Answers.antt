@@ -55,7 +55,7 @@ not_above x e = omega (arith, ints)
 this_turn : (c : goal.Else-d-gt2000) → Turn c.loop-i.i c.loop-i.sum c.loop-i.squares c.from-d.result
 this_turn c =
     let x : ℤ = c.from-d.result in
-    let r : SFits w64 x = record { sfits = c.from-d.type-inv } in
+    let r : SFits w64 x = record { sfits = c.from-d.type_inv } in
     let s = c.loop-i.sum-is in
     let q = c.loop-i.squares-is in
     let v = simp (s, q) at c.loop-i.invariant in
@@ -72,25 +72,25 @@ returns-then-d-ltminus2000 c =
     let ds : List ℤ = c.args.deviations.now in
     let i : ℕ = c.loop-i.i in
     let f : SFits w32 (get_or ds i (pos 0)) = search rules in
-    let r : SFits w64 c.from-d.result = record { sfits = c.from-d.type-inv } in
+    let r : SFits w64 c.from-d.result = record { sfits = c.from-d.type_inv } in
     let e : c.from-d.result ≡ get_or ds i (pos 0) = simp to_z-of_z at c.from-d.ensures in
-    let out : deviation_allowed c.from-d.result ≡ false = elim c.then-d-ltminus2000.branch [ then-d-ltminus2000-via-then-d-ltminus2000 w ↦ below c.from-d.result (simp to_z-of_z at w.if-d-ltminus2000.true) | then_d_ltminus2000_via_else_d_ltminus2000+then_d_gt2000 w ↦ above c.from-d.result (simp to_z-of_z at w.if-d-gt2000.true) ] in
+    let out : deviation_allowed c.from-d.result ≡ false = elim c.then-d-ltminus2000.branch [ then-d-ltminus2000-via-then-d-ltminus2000 w ↦ below c.from-d.result (simp to_z-of_z at w.if-d-ltminus2000.true) | then-d-ltminus2000-via-else-d-ltminus2000+then-d-gt2000 w ↦ above c.from-d.result (simp to_z-of_z at w.if-d-gt2000.true) ] in
     let h : i < length ds = c.loop-i-test.true in
     let l : prefix_len deviation_allowed ds ≡ i = omega (arith, prefix_len-drop_no deviation_allowed ds i (pos 0) h (subst (λ (x : ℤ). deviation_allowed x ≡ false) e out)) in
     judged_entry (MarginOf ds) (count_allowed (length ds)) deviation_allowed ds i (few_enough (length ds) c.if-count-lt2.false c.if-count-gt44640.false) l h
 
-pub overflow-mul-squares : goal.overflow-mul-squares
-overflow-mul-squares c = let r : SFits w64 c.from-d.result = record { sfits = c.from-d.type-inv } in simp to_z-of_z (this_turn c).square
+pub overflow_mul-squares : goal.overflow_mul-squares
+overflow_mul-squares c = let r : SFits w64 c.from-d.result = record { sfits = c.from-d.type_inv } in simp to_z-of_z (this_turn c).square
 
-pub overflow-add-sum : goal.overflow-add-sum
-overflow-add-sum c =
-    let r : SFits w64 c.from-d.result = record { sfits = c.from-d.type-inv } in
+pub overflow_add-sum : goal.overflow_add-sum
+overflow_add-sum c =
+    let r : SFits w64 c.from-d.result = record { sfits = c.from-d.type_inv } in
     let s = c.loop-i.sum-is in
     simp (to_z-of_z, s) (this_turn c).sum
 
-pub overflow-add-squares : goal.overflow-add-squares
-overflow-add-squares c =
-    let r : SFits w64 c.from-d.result = record { sfits = c.from-d.type-inv } in
+pub overflow_add-squares : goal.overflow_add-squares
+overflow_add-squares c =
+    let r : SFits w64 c.from-d.result = record { sfits = c.from-d.type_inv } in
     let t = this_turn c in
     let q = t.square in
     let s = c.loop-i.squares-is in
@@ -103,7 +103,7 @@ loop-i-preserved c =
     let x : ℤ = c.from-d.result in
     let f : SFits w32 (get_or ds i (pos 0)) = search rules in
     let e : x ≡ get_or ds i (pos 0) = simp to_z-of_z at c.from-d.ensures in
-    let r : SFits w64 x = record { sfits = c.from-d.type-inv } in
+    let r : SFits w64 x = record { sfits = c.from-d.type_inv } in
     let t = this_turn c in
     let t1 = t.square in
     let t2 = t.sum in

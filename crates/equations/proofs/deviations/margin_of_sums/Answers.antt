@@ -20,60 +20,60 @@ fewer_some n m h e = omega (arith, ints)
 margin_fits : (t : ℤ) → negsuc 1999 ≤ℤ t → t ≤ℤ pos 6192 → SFits w32 t
 margin_fits t h k = omega (arith, ints)
 
-pub spread-of-requires : goal.spread-of-requires
-spread-of-requires c = c.if-not-sums-allowed.ensures
+pub spread_of-requires : goal.spread_of-requires
+spread_of-requires c = c.if-not-sums_allowed.ensures
 
-pub one-fewer-requires : goal.one-fewer-requires
-one-fewer-requires c =
+pub one_fewer-requires : goal.one_fewer-requires
+one_fewer-requires c =
     let f = c.ranges.count in
     let f2 = c.ranges.sum in
     let f3 = c.ranges.squares in
-    let s = simp to_z-of_z at c.if-not-sums-allowed.ensures in
+    let s = simp to_z-of_z at c.if-not-sums_allowed.ensures in
     simp to_z-of_z (count_near c.args.count s.few s.many)
 
-pub square-bound-bound-requires : goal.square-bound-bound-requires
-square-bound-bound-requires c =
+pub square_bound-bound-requires : goal.square_bound-bound-requires
+square_bound-bound-requires c =
     let f = c.ranges.count in
     let f2 = c.ranges.sum in
     let f3 = c.ranges.squares in
-    let r : SFits w64 c.spread-of.result = record { sfits = c.spread-of.type-inv } in
-    let q : SFits w64 c.one-fewer.result = record { sfits = c.one-fewer.type-inv } in
-    let s = simp to_z-of_z at c.if-not-sums-allowed.ensures in
-    simp to_z-of_z record { v = c.spread-of.ensures.near; fewer = fewer_some c.args.count c.one-fewer.result s.few (simp to_z-of_z at c.one-fewer.ensures) }
+    let r : SFits w64 c.spread_of.result = record { sfits = c.spread_of.type_inv } in
+    let q : SFits w64 c.one_fewer.result = record { sfits = c.one_fewer.type_inv } in
+    let s = simp to_z-of_z at c.if-not-sums_allowed.ensures in
+    simp to_z-of_z record { v = c.spread_of.ensures.near; fewer = fewer_some c.args.count c.one_fewer.result s.few (simp to_z-of_z at c.one_fewer.ensures) }
 
-pub search-margin-requires : goal.search-margin-requires
-search-margin-requires c =
+pub search_margin-requires : goal.search_margin-requires
+search_margin-requires c =
     let f = c.ranges.count in
     let f2 = c.ranges.sum in
     let f3 = c.ranges.squares in
-    let r0 : SFits w64 c.spread-of.result = record { sfits = c.spread-of.type-inv } in
-    let r : SFits w64 c.square-bound-bound.result = record { sfits = c.square-bound-bound.type-inv } in
-    let s = simp to_z-of_z at c.if-not-sums-allowed.ensures in
-    let q : SFits w64 c.one-fewer.result = record { sfits = c.one-fewer.type-inv } in
-    let e = bound_is c.args.count c.args.sum c.args.squares c.spread-of.result c.one-fewer.result c.square-bound-bound.result (simp to_z-of_z at c.spread-of.ensures.value) (simp to_z-of_z at c.one-fewer.ensures) (simp to_z-of_z at c.square-bound-bound.ensures) in
+    let r0 : SFits w64 c.spread_of.result = record { sfits = c.spread_of.type_inv } in
+    let r : SFits w64 c.square_bound-bound.result = record { sfits = c.square_bound-bound.type_inv } in
+    let s = simp to_z-of_z at c.if-not-sums_allowed.ensures in
+    let q : SFits w64 c.one_fewer.result = record { sfits = c.one_fewer.type_inv } in
+    let e = bound_is c.args.count c.args.sum c.args.squares c.spread_of.result c.one_fewer.result c.square_bound-bound.result (simp to_z-of_z at c.spread_of.ensures.value) (simp to_z-of_z at c.one_fewer.ensures) (simp to_z-of_z at c.square_bound-bound.ensures) in
     simp to_z-of_z record {
       count = (s.few, s.many);
       sum = (s.sum_least, s.sum_most);
       top = rw e (top_missed c.args.count c.args.sum c.args.squares s);
     }
 
-pub overflow-cast-result : goal.overflow-cast-result
-overflow-cast-result c =
-    let r : SFits w64 c.search-margin.result = record { sfits = c.search-margin.type-inv } in
-    let n = c.search-margin.ensures.near in
-    simp to_z-of_z (margin_fits c.search-margin.result n.0 n.1)
+pub overflow_cast-result : goal.overflow_cast-result
+overflow_cast-result c =
+    let r : SFits w64 c.search_margin.result = record { sfits = c.search_margin.type_inv } in
+    let n = c.search_margin.ensures.near in
+    simp to_z-of_z (margin_fits c.search_margin.result n.0 n.1)
 
 pub returns : goal.returns
 returns c =
     let f = c.ranges.count in
     let f2 = c.ranges.sum in
     let f3 = c.ranges.squares in
-    let r : SFits w64 c.square-bound-bound.result = record { sfits = c.square-bound-bound.type-inv } in
-    let r2 : SFits w64 c.search-margin.result = record { sfits = c.search-margin.type-inv } in
-    let r3 = margin_fits c.search-margin.result c.search-margin.ensures.near.0 c.search-margin.ensures.near.1 in
-    let s = simp to_z-of_z at c.if-not-sums-allowed.ensures in
-    let r0 : SFits w64 c.spread-of.result = record { sfits = c.spread-of.type-inv } in
-    let q : SFits w64 c.one-fewer.result = record { sfits = c.one-fewer.type-inv } in
-    let e = bound_is c.args.count c.args.sum c.args.squares c.spread-of.result c.one-fewer.result c.square-bound-bound.result (simp to_z-of_z at c.spread-of.ensures.value) (simp to_z-of_z at c.one-fewer.ensures) (simp to_z-of_z at c.square-bound-bound.ensures) in
-    let g = simp to_z-of_z at c.search-margin.ensures.value in
+    let r : SFits w64 c.square_bound-bound.result = record { sfits = c.square_bound-bound.type_inv } in
+    let r2 : SFits w64 c.search_margin.result = record { sfits = c.search_margin.type_inv } in
+    let r3 = margin_fits c.search_margin.result c.search_margin.ensures.near.0 c.search_margin.ensures.near.1 in
+    let s = simp to_z-of_z at c.if-not-sums_allowed.ensures in
+    let r0 : SFits w64 c.spread_of.result = record { sfits = c.spread_of.type_inv } in
+    let q : SFits w64 c.one_fewer.result = record { sfits = c.one_fewer.type_inv } in
+    let e = bound_is c.args.count c.args.sum c.args.squares c.spread_of.result c.one_fewer.result c.square_bound-bound.result (simp to_z-of_z at c.spread_of.ensures.value) (simp to_z-of_z at c.one_fewer.ensures) (simp to_z-of_z at c.square_bound-bound.ensures) in
+    let g = simp to_z-of_z at c.search_margin.ensures.value in
     simp to_z-of_z (s, rw e at g)

@@ -37,7 +37,7 @@ pub reached-requires : goal.reached-requires
 reached-requires c =
     let f1 = c.ranges.count in
     let f2 = c.ranges.sum in
-    let r1 : SFits w64 c.from.result = record { sfits = c.from.type-inv } in
+    let r1 : SFits w64 c.from.result = record { sfits = c.from.type_inv } in
     let k = asked c in
     let f3 = k.fits in
     simp to_z-of_z record { near = (k.count, k.sum, k.middle) }
@@ -57,7 +57,7 @@ loop-width-preserved-then-reached c =
     let half : ℕ = c.loop-width.width / 2 in
     let low : ℕ = c.loop-width.low in
     let R : ℤ → Type 0 = λ t. Reached c.args.count c.args.sum c.args.bound t in
-    let r1 : SFits w64 c.from.result = record { sfits = c.from.type-inv } in
+    let r1 : SFits w64 c.from.result = record { sfits = c.from.type_inv } in
     let r2 = middle_fits c.from.result low c.loop-width.width c.from.ensures c.loop-width.invariant.3 in
     let p = halves low c.loop-width.width c.loop-width-test.true c.loop-width.invariant.3 in
     let inv = simp to_z-of_z at c.loop-width.invariant in
@@ -73,7 +73,7 @@ loop-width-preserved c =
     let half : ℕ = c.loop-width.width / 2 in
     let low : ℕ = c.loop-width.low in
     let R : ℤ → Type 0 = λ t. Reached c.args.count c.args.sum c.args.bound t in
-    let r1 : SFits w64 c.from.result = record { sfits = c.from.type-inv } in
+    let r1 : SFits w64 c.from.result = record { sfits = c.from.type_inv } in
     let r2 = middle_fits c.from.result low c.loop-width.width c.from.ensures c.loop-width.invariant.3 in
     let p = halves low c.loop-width.width c.loop-width-test.true c.loop-width.invariant.3 in
     let inv = simp to_z-of_z at c.loop-width.invariant in
@@ -101,7 +101,7 @@ returns c =
     let f3 = c.ranges.bound in
     let low : ℕ = c.loop-width.low in
     let R : ℤ → Type 0 = λ t. Reached n S B t in
-    let r1 : SFits w64 c.from-2.result = record { sfits = c.from-2.type-inv } in
+    let r1 : SFits w64 c.from-2.result = record { sfits = c.from-2.type_inv } in
     let inv = simp to_z-of_z at c.loop-width.invariant in
     let k = left c.from-2.result low c.loop-width.width c.from-2.ensures inv.2 c.loop-width-test.false inv.3 in
     let r2 = k.fits in

@@ -4,19 +4,19 @@ use Rattle.equations.specs.Margins.{AllowedSums, spread}
 use Rattle.equations.proofs.Reaching.{Fitting, fitting}
 use Rattle.equations.proofs.deviations.spread_of.Goals as goal
 
-pub overflow-mul-product : goal.overflow-mul-product
-overflow-mul-product c =
+pub overflow_mul-product : goal.overflow_mul-product
+overflow_mul-product c =
     let f1 = c.ranges.count in
     let f2 = c.ranges.squares in
     simp to_z-of_z (fitting c.args.count c.args.sum c.args.squares c.requires).product
 
-pub overflow-mul-result : goal.overflow-mul-result
-overflow-mul-result c =
+pub overflow_mul-result : goal.overflow_mul-result
+overflow_mul-result c =
     let f1 = c.ranges.sum in
     simp to_z-of_z (fitting c.args.count c.args.sum c.args.squares c.requires).square
 
-pub overflow-sub-result : goal.overflow-sub-result
-overflow-sub-result c =
+pub overflow_sub-result : goal.overflow_sub-result
+overflow_sub-result c =
     let f1 = c.ranges.count in
     let f2 = c.ranges.squares in
     let f3 = c.ranges.sum in
@@ -25,8 +25,8 @@ overflow-sub-result c =
     let k2 = k.square in
     simp to_z-of_z k.difference
 
-pub overflow-mul-result-2 : goal.overflow-mul-result-2
-overflow-mul-result-2 c =
+pub overflow_mul-result-2 : goal.overflow_mul-result-2
+overflow_mul-result-2 c =
     let f1 = c.ranges.count in
     let f2 = c.ranges.squares in
     let f3 = c.ranges.sum in

@@ -4,15 +4,15 @@ use Rattle.std.proofs.lemmas.Int.{ints, to_z-of_z}
 use Rattle.equations.proofs.Reaching.{quotient_between}
 use Rattle.equations.proofs.deviations.square_bound.Goals as goal
 
-pub nonzero-div-result : goal.nonzero-div-result
-nonzero-div-result c =
+pub nonzero_div-result : goal.nonzero_div-result
+nonzero_div-result c =
     let f = c.ranges.v in
     let g = c.ranges.fewer in
     let d = quotient_between c.args.v c.args.fewer c.requires.v.0 c.requires.fewer in
     (omega (arith, ints), simp to_z-of_z (omega (arith, ints)))
 
-pub overflow-add-result : goal.overflow-add-result
-overflow-add-result c =
+pub overflow_add-result : goal.overflow_add-result
+overflow_add-result c =
     let f = c.ranges.v in
     let g = c.ranges.fewer in
     let d = quotient_between c.args.v c.args.fewer c.requires.v.0 c.requires.fewer in

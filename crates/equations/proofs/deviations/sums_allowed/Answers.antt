@@ -36,9 +36,9 @@ returns-then-sum-most c = λ s.
     let k2 = k.2 in
     elim c.then-sum-most.branch [
       | then-sum-most-via-then-sum-most w ↦ too_low _ _ _ s (simp to_z-of_z at w.if-sum-most.true)
-      | then_sum_most_via_else_sum_most+then_sum_most_2 w ↦ too_high _ _ _ s (simp to_z-of_z at w.if-sum-most-2.true)
-      | then_sum_most_via_else_sum_most+else_sum_most_2+then_squares_lt0 w ↦ negative _ _ _ s (simp to_z-of_z at w.if-squares-lt0.true)
-      | then_sum_most_via_else_sum_most+else_sum_most_2+else_squares_lt0+then_squares_most w ↦ too_wide _ _ _ s (simp to_z-of_z at w.if-squares-most.true)
+      | then-sum-most-via-else-sum-most+then-sum-most-2 w ↦ too_high _ _ _ s (simp to_z-of_z at w.if-sum-most-2.true)
+      | then-sum-most-via-else-sum-most+else-sum-most-2+then-squares-lt0 w ↦ negative _ _ _ s (simp to_z-of_z at w.if-squares-lt0.true)
+      | then-sum-most-via-else-sum-most+else-sum-most-2+else-squares-lt0+then-squares-most w ↦ too_wide _ _ _ s (simp to_z-of_z at w.if-squares-most.true)
     ]
 
 -- what the tests on the way have shown
@@ -75,11 +75,11 @@ product_fits n S Q b =
     let k : Near 200000000000 Q = (omega (arith, ints), omega (arith, ints)) in
     near_fits (n *ℤ Q) (44640 * 200000000000) (lit< tt) (near_product 44640 200000000000 n Q h k)
 
-pub overflow-mul-result : goal.overflow-mul-result
-overflow-mul-result c = let f = c.ranges.sum in simp to_z-of_z (square_fits c.args.count c.args.sum c.args.squares (bounded c))
+pub overflow_mul-result : goal.overflow_mul-result
+overflow_mul-result c = let f = c.ranges.sum in simp to_z-of_z (square_fits c.args.count c.args.sum c.args.squares (bounded c))
 
-pub overflow-mul-result-2 : goal.overflow-mul-result-2
-overflow-mul-result-2 c = let f = c.ranges.count in let g = c.ranges.squares in simp to_z-of_z (product_fits c.args.count c.args.sum c.args.squares (bounded c))
+pub overflow_mul-result-2 : goal.overflow_mul-result-2
+overflow_mul-result-2 c = let f = c.ranges.count in let g = c.ranges.squares in simp to_z-of_z (product_fits c.args.count c.args.sum c.args.squares (bounded c))
 
 pub returns : goal.returns
 returns c =

@@ -14,17 +14,17 @@ whole_allowed n D h k l = grind (arith, ints, nat_tests)
 
 pub weigh-requires : goal.weigh-requires
 weigh-requires c =
-    record { few = omega arith; allowed = (judged_ok (λ (p : ℤ). p ≡ total_power_lem c.args.sources.now) true source_allowed c.args.sources.now c.in-ok-power.power refl c.in-ok-power.ensures).0 }
+    record { few = omega arith; allowed = (judged_ok (λ (p : ℤ). p ≡ total_power_lem c.args.sources.now) true source_allowed c.args.sources.now c.in_ok-power.power refl c.in_ok-power.ensures).0 }
 
 pub returns : goal.returns
 returns c =
     let ss : List Source = c.args.sources.now in
     let D : ℤ = c.args.regulation in
     let f1 = c.ranges.regulation in
-    let f2 : SFits w32 c.in-ok-power.power = search rules in
-    let f3 : SFits w32 c.weigh.result = record { sfits = c.weigh.type-inv } in
+    let f2 : SFits w32 c.in_ok-power.power = search rules in
+    let f3 : SFits w32 c.weigh.result = record { sfits = c.weigh.type_inv } in
     let f4 : SFits w32 (quot_z c.weigh.result (pos 100)) = omega (arith, ints, c.weigh.ensures.least) in
-    let j = judged_ok (λ (p : ℤ). p ≡ total_power_lem ss) true source_allowed ss c.in-ok-power.power refl c.in-ok-power.ensures in
-    let row : c.row-for-row.result ≡ serving c.in-ok-power.power D = simp to_z-of_z at c.row-for-row.ensures in
+    let j = judged_ok (λ (p : ℤ). p ≡ total_power_lem ss) true source_allowed ss c.in_ok-power.power refl c.in_ok-power.ensures in
+    let row : c.row_for-row.result ≡ serving c.in_ok-power.power D = simp to_z-of_z at c.row_for-row.ensures in
     let e : c.weigh.result ≡ weighed (serving (total_power_lem ss) D) ss = c.weigh.ensures.value ∙ ap (λ (r : Row). weighed r ss) (row ∙ ap (λ (p : ℤ). serving p D) j.1) in
     simp to_z-of_z (judged_answer (λ (x : ℤ). x ≡ reserve_of ss D) (leb (length ss) 8 && between (pos 0) D (pos 5000)) source_allowed ss (quot_z c.weigh.result (pos 100)) (whole_allowed (length ss) D (omega arith) (omega (arith, ints)) (omega (arith, ints))) j.0 (ap (λ (x : ℤ). quot_z x (pos 100)) e))

@@ -13,12 +13,12 @@ use Rattle.equations.proofs.sources.total_power.Goals as goal
 pub loop-i-init : goal.loop-i-init
 loop-i-init c = (sym (total_none (λ (s : Source). s.power)), omega arith, omega (arith, ints), omega (arith, ints))
 
-pub returns-then-not-in-bounds : goal.returns-then-not-in-bounds
-returns-then-not-in-bounds c =
+pub returns-then-not-in_bounds : goal.returns-then-not-in_bounds
+returns-then-not-in_bounds c =
     let ss : List Source = c.args.sources.now in
     let i : ℕ = c.loop-i.i in
     let h : i < length ss = omega arith in
-    let out : source_allowed (get_or ss i blank) ≡ false = sym c.in-bounds.ensures ∙ c.if-not-in-bounds.true in
+    let out : source_allowed (get_or ss i blank) ≡ false = sym c.in_bounds.ensures ∙ c.if-not-in_bounds.true in
     let l : prefix_len source_allowed ss ≡ i = omega (arith, prefix_len-drop_no source_allowed ss i blank h out) in
     judged_entry (λ (p : ℤ). p ≡ total_power_lem ss) true source_allowed ss i refl l h
 
@@ -27,7 +27,7 @@ loop-i-preserved c =
     let ss : List Source = c.args.sources.now in
     let i : ℕ = c.loop-i.i in
     let h : i < length ss = omega arith in
-    let ok : source_allowed (get_or ss i blank) ≡ true = sym c.in-bounds.ensures ∙ c.if-not-in-bounds.false in
+    let ok : source_allowed (get_or ss i blank) ≡ true = sym c.in_bounds.ensures ∙ c.if-not-in_bounds.false in
     let b = power_between (get_or ss i blank) ok in
     let f : SFits w32 (get_or ss i blank).power = omega (arith, ints) in
     let a = total_more (λ (s : Source). s.power) ss i blank h in

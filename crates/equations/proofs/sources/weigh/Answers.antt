@@ -30,18 +30,18 @@ turn row s k ok e =
     within : (x : ℤ) → pos 0 ≤ℤ x → x ≤ℤ pos 500000 → SFits w32 x
     within x h l = omega (arith, ints)
 
-this_turn : (c : goal.After-sum·1) → Turn c.args.row (get_or c.args.sources.now c.loop-source.source-index blank) c.coefficient-of.result
-this_turn c = turn c.args.row (get_or c.args.sources.now c.loop-source.source-index blank) c.coefficient-of.result (all_pass source_allowed c.args.sources.now blank c.requires.allowed c.loop-source.source-index c.loop-source-test.true) c.coefficient-of.ensures
+this_turn : (c : goal.After-sum-1) → Turn c.args.row (get_or c.args.sources.now c.loop-source.source-index blank) c.coefficient_of.result
+this_turn c = turn c.args.row (get_or c.args.sources.now c.loop-source.source-index blank) c.coefficient_of.result (all_pass source_allowed c.args.sources.now blank c.requires.allowed c.loop-source.source-index c.loop-source-test.true) c.coefficient_of.ensures
 
-pub overflow-mul-sum : goal.overflow-mul-sum
-overflow-mul-sum c =
+pub overflow_mul-sum : goal.overflow_mul-sum
+overflow_mul-sum c =
     let t = this_turn c in
     let f1 = t.small in
     let f2 = t.power in
     simp to_z-of_z t.product
 
-pub overflow-add-sum : goal.overflow-add-sum
-overflow-add-sum c =
+pub overflow_add-sum : goal.overflow_add-sum
+overflow_add-sum c =
     let t = this_turn c in
     let f1 = t.small in
     let f2 = t.power in

@@ -17,5 +17,5 @@ loop-line-preserved c =
 pub returns : goal.returns
 returns c = elim c.loop-line-test.branch [
   | else-loop-line-test w ↦ read_most _ _ _ _ 100000 (c.loop-line.auto.line-end (lit≤ tt)) w.loop-line-test.false c.loop-line.invariant
-  | then_loop_line_test+in_default w ↦ read_out _ _ _ _ 100000 w.loop-line-test.true c.loop-line.invariant w.in-default.ensures.next.0
+  | then-loop-line-test+in-default w ↦ read_out _ _ _ _ 100000 w.loop-line-test.true c.loop-line.invariant w.in-default.ensures.next.0
 ]

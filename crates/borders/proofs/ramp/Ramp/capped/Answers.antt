@@ -42,7 +42,7 @@ returns-then-q-lt1 g c =
     let fl = c.ranges.limit in
     elim c.then-q-lt1.branch [
       | then-q-lt1-via-then-q-lt1 w ↦ simp to_z-of_z (sym (capped_out c.args.self.now.rate s c.args.q c.args.limit (early (length s) c.args.q (simp to_z-of_z at w.if-q-lt1.true))))
-      | then_q_lt1_via_else_q_lt1+then_q_periods w ↦
+      | then-q-lt1-via-else-q-lt1+then-q-periods w ↦
           let fp : SFits w32 w.periods.result = record { sfits = w.periods.type-inv } in
           simp to_z-of_z (sym (capped_out c.args.self.now.rate s c.args.q c.args.limit (late (length s) c.args.q w.periods.result w.periods.ensures (simp to_z-of_z at w.if-q-periods.true))))
     ]

@@ -81,7 +81,7 @@ returns-then-step-self g c =
       λ over. let z = admitted_step R below s over k c.loop-k-test.true c.loop-k.auto.k in
           absurd (elim c.then-step-self.branch [
             | then-step-self-via-then-step-self v ↦ rising (get_or s k (pos 0)) (get_or s (k - 1) (pos 0)) R (simp to_z-of_z at v.if-step-self.true) z.rise
-            | then_step_self_via_else_step_self+then_step_self_2 v ↦ falling (get_or s k (pos 0)) (get_or s (k - 1) (pos 0)) R (simp to_z-of_z at v.if-step-self-2.true) z.fall
+            | then-step-self-via-else-step-self+then-step-self-2 v ↦ falling (get_or s k (pos 0)) (get_or s (k - 1) (pos 0)) R (simp to_z-of_z at v.if-step-self-2.true) z.fall
           ]),
     )
 

@@ -23,9 +23,9 @@ returns-then-flow-ltminus30000 g c =
       λ a. let i = inside_admitted (stated_by g.K.Kind.test g.K.Kind.lowest g.K.Kind.highest) b.flows b.lower b.upper s kept a k c.loop-k-test.true in
           absurd (elim c.then-flow-ltminus30000.branch [
             | then-flow-ltminus30000-via-then-flow-ltminus30000 w ↦ lt_not x (neg_ℤ (pos 30000)) (simp to_z-of_z at w.if-flow-ltminus30000.true) i.least
-            | then_flow_ltminus30000_via_else_flow_ltminus30000+then_flow_gt30000 w ↦ lt_not (pos 30000) x (simp to_z-of_z at w.if-flow-gt30000.true) i.most
-            | then_flow_ltminus30000_via_else_flow_ltminus30000+else_flow_gt30000+then_flow_self w ↦ lt_not x l (simp to_z-of_z at w.if-flow-self.true) i.over
-            | then_flow_ltminus30000_via_else_flow_ltminus30000+else_flow_gt30000+else_flow_self+then_flow_self_2 w ↦ lt_not u x (simp to_z-of_z at w.if-flow-self-2.true) i.under
+            | then-flow-ltminus30000-via-else-flow-ltminus30000+then-flow-gt30000 w ↦ lt_not (pos 30000) x (simp to_z-of_z at w.if-flow-gt30000.true) i.most
+            | then-flow-ltminus30000-via-else-flow-ltminus30000+else-flow-gt30000+then-flow-self w ↦ lt_not x l (simp to_z-of_z at w.if-flow-self.true) i.over
+            | then-flow-ltminus30000-via-else-flow-ltminus30000+else-flow-gt30000+else-flow-self+then-flow-self-2 w ↦ lt_not u x (simp to_z-of_z at w.if-flow-self-2.true) i.under
           ]),
     )
 

@@ -9,7 +9,7 @@ returns-then-border-eq0 c = record {
   value = flow_past c.args.flows.now c.args.border
       (elim c.then-border-eq0.branch [
         | then-border-eq0-via-then-border-eq0 w ↦ inl w.if-border-eq0.true
-        | then_border_eq0_via_else_border_eq0+then_border_flows w ↦ inr w.if-border-flows.true
+        | then-border-eq0-via-else-border-eq0+then-border-flows w ↦ inr w.if-border-flows.true
       ]);
   low = search rules;
   high = search rules;

@@ -1,7 +1,7 @@
 use Rattle.std.proofs.Common.{inl, inr, arith, rules}
-use Rattle.log.proofs.Kept.{no_record, record_read}
-use Rattle.log.proofs.Log.read.Goals as goal
-use Rattle.log.proofs.Log.read.Goals.{then-number-lt1-via-then-number-lt1, then-number-lt1-via-else-number-lt1+then-number-self}
+use Rattle.logs.proofs.Kept.{no_record, record_read}
+use Rattle.logs.proofs.Log.read.Goals as goal
+use Rattle.logs.proofs.Log.read.Goals.{then-number-lt1-via-then-number-lt1, then-number-lt1-via-else-number-lt1+then-number-self}
 
 pub returns : goal.returns
 returns g c = record_read c.args.self.now.slots.now c.args.self.now.count c.args.number _ c.args.self.now.within (omega arith) (omega arith) c.index-slots-place.is
@@ -9,4 +9,4 @@ returns g c = record_read c.args.self.now.slots.now c.args.self.now.count c.args
 pub returns-then-number-lt1 : goal.returns-then-number-lt1
 returns-then-number-lt1 g c =
     no_record c.args.self.now.slots.now c.args.self.now.count c.args.number c.args.self.now.within
-    (elim c.then-number-lt1.branch [ then-number-lt1-via-then-number-lt1 w ↦ inl (omega arith) | then_number_lt1_via_else_number_lt1+then_number_self w ↦ inr w.if-number-self.true ])
+    (elim c.then-number-lt1.branch [ then-number-lt1-via-then-number-lt1 w ↦ inl (omega arith) | then-number-lt1-via-else-number-lt1+then-number-self w ↦ inr w.if-number-self.true ])

@@ -1,7 +1,7 @@
 -- The records of a log.
 use Rattle.std.specs.Prelude.{◌≡◌, ℕ, ◌+◌, ◌-◌, ◌<◌, ◌≤◌, min, Bool, true, false, cond, List, [], ◌∷◌, ◌++◌, length, take, None, Option, Result, MatchResult, nat_lt, slice_set}
 use Rattle.std.specs.List.{slice_get}
-use Rattle.log.specs.declared.LogFull.{LogFull}
+use Rattle.logs.specs.declared.LogFull.{LogFull}
 
 -- the records entered, in order: the first of the memory that is lent
 abbrev pub entries : {X : Type 0} → List X → ℕ → List X

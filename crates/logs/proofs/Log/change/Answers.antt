@@ -1,6 +1,6 @@
 use Rattle.std.proofs.Common.{◌-◌, refl, arith}
-use Rattle.log.proofs.Kept.{numbered, entries_with}
-use Rattle.log.proofs.Log.change.Goals as goal
+use Rattle.logs.proofs.Kept.{numbered, entries_with}
+use Rattle.logs.proofs.Log.change.Goals as goal
 
 pub returns : goal.returns
 returns g c =

@@ -1,6 +1,6 @@
 use Rattle.std.proofs.Common.{refl, arith}
 use Rattle.std.proofs.lemmas.List.{take_more_set}
-use Rattle.log.proofs.Log.enter.Goals as goal
+use Rattle.logs.proofs.Log.enter.Goals as goal
 
 pub returns : goal.returns
 returns g c = record {

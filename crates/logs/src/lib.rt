@@ -1,6 +1,6 @@
 //! A log: plain records in memory that the caller lends, in order of entry.
 ghost use Rattle.std.specs.Prelude.{◌≡◌, ◌≤◌, [], length};
-ghost use Rattle.log.specs.Entries.{entries, capacity_of, record_at, Entered, Changed};
+ghost use Rattle.logs.specs.Entries.{entries, capacity_of, record_at, Entered, Changed};
 
 /// The most records that a log keeps, however long the memory is.
 pub const MOST: usize = 65_536;
