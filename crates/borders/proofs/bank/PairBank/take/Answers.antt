@@ -6,4 +6,4 @@ pub returns : goal.returns
 returns g c =
     let f = c.ranges.period in
     let fm = c.ranges.m in
-    record { own = simp to_z-of_z at c.take.ensures.own_val; others = c.take.ensures.others; named = simp to_z-of_z at c.take.ensures.named }
+    record { own = simp to_z-of_z at c.take.ensures.own; others = c.take.ensures.others; named = simp to_z-of_z at c.take.ensures.named }

@@ -30,8 +30,8 @@ falling x y R a b = omega (arith, ints)
 near_at : (b : Meaning) (s : Schedule) → Admitted b s → (j : ℕ) → j < length s → Near30 (get_or s j (pos 0))
 near_at b s a j h = by_place s j h a.within
 
-pub overflow-sub-step-in-loop-k : goal.overflow-sub-step-in-loop-k
-overflow-sub-step-in-loop-k g c =
+pub overflow_sub-step-in-loop-k : goal.overflow_sub-step-in-loop-k
+overflow_sub-step-in-loop-k g c =
     let s : Schedule = c.args.schedule.now in
     let below : Meaning = g.B.Border.meaning c.args.self.now.below in
     let a = c.if-not-admits.ensures.0 refl in

@@ -2,4 +2,4 @@ use Rattle.kinds.proofs.Sheets.{idle_kept}
 use Rattle.kinds.proofs.sheeted.Sheeted.new.Goals as goal
 
 pub invariant-of-result : goal.invariant-of-result
-invariant-of-result g c = (idle_kept.long, (idle_kept.rows, (idle_kept.least, (idle_kept.most, (idle_kept.top, (idle_kept.bottom, tt))))))
+invariant-of-result g c = record { long = idle_kept.long; rows = idle_kept.rows; least = idle_kept.least; most = idle_kept.most; top = idle_kept.top; bottom = idle_kept.bottom }

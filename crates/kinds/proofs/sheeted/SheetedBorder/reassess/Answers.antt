@@ -31,7 +31,7 @@ invariant-of-self g c =
     kept_put g.K.Kind.test g.K.Kind.lowest g.K.Kind.highest g.met.K.Kind.bounded s.flows s.lower s.upper c.in-Some.k c.args.period c.args.sheet.now (kept_of s) slot (sym c.accepts.ensures ∙ c.if-not-accepts.false)
     c.lower.result c.upper.result (record { sfits = c.lower.type-inv }) c.lower.ensures (record { sfits = c.upper.type-inv }) c.upper.ensures
     in
-    (k.long, (k.rows, (k.least, (k.most, (k.top, (k.bottom, tt))))))
+    record { long = k.long; rows = k.rows; least = k.least; most = k.most; top = k.top; bottom = k.bottom }
 
 pub returns : goal.returns
 returns g c =

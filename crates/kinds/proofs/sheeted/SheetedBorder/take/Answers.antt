@@ -31,7 +31,7 @@ invariant-of-self g c =
     let s = c.args.self.now in
     let w = written g c in
     let k = subst (λ (x : Schedule). Kept x s.lower s.upper) (sym w.same) w.kept in
-    (k.long, (k.rows, (k.least, (k.most, (k.top, (k.bottom, tt))))))
+    record { long = k.long; rows = k.rows; least = k.least; most = k.most; top = k.top; bottom = k.bottom }
 
 pub returns-in-Some : goal.returns-in-Some
 returns-in-Some g c =

@@ -34,7 +34,7 @@ returns-in-err-may-reassess g c = record {
       let fp = c.ranges.period in
       let v = seen g.B.Bank.borders c.args.self.now deals c.args.sheets.now in
       let there = simp to_z-of_z at c.in-ok-at.ensures in
-      let own = simp to_z-of_z at c.in-err-may-reassess.ensures.own_val in
+      let own = simp to_z-of_z at c.in-err-may-reassess.ensures.own in
       let named = simp to_z-of_z at c.in-err-may-reassess.ensures.named in
       let e = c.in-err-may-reassess.field-0.0 in
       let told = told_by_border e _ c.args.period _ (named.0 ∙ there.2) named.1 own.1 in
@@ -65,7 +65,7 @@ returns-then-flows-early g c = record {
       let fp = c.ranges.period in
       let v = seen g.B.Bank.borders c.args.self.now deals c.args.sheets.now in
       let there = simp to_z-of_z at c.in-ok-at.ensures in
-      let passes = rw there.2 at (simp to_z-of_z at c.in-ok-may-reassess.ensures.own_val) in
+      let passes = rw there.2 at (simp to_z-of_z at c.in-ok-may-reassess.ensures.own) in
       (rw (to_z-of_z w32 c.args.border fc, to_z-of_z w32 c.args.period fp) (flow_refuses v c.args.border c.args.period c.args.sheet there.0 there.1 passes c.in-ok-allows.field-0 c.in-ok-allows.ensures (c.if-flows-early.ensures.0 refl)), refl);
   lent = refl;
 }
@@ -77,7 +77,7 @@ returns-in-default g c = record {
       let fp = c.ranges.period in
       let v = seen g.B.Bank.borders c.args.self.now deals c.args.sheets.now in
       let there = simp to_z-of_z at c.in-ok-at.ensures in
-      let passes = rw there.2 at (simp to_z-of_z at c.in-ok-may-reassess.ensures.own_val) in
+      let passes = rw there.2 at (simp to_z-of_z at c.in-ok-may-reassess.ensures.own) in
       let in_time : FlowsEarly c.args.sheet c.args.self.now.state → ⊥ = λ h. false≢true (c.if-flows-early.ensures.1 h) in
       let full = c.in-default.ensures.answer in (
         rw (to_z-of_z w32 c.args.period fp) (log_refuses v c.args.border c.args.period c.args.sheet there.0 there.1 passes c.in-ok-allows.field-0 c.in-ok-allows.ensures in_time full.0),
@@ -93,10 +93,10 @@ returns g c = record {
       let fp = c.ranges.period in
       let v = seen g.B.Bank.borders c.args.self.now deals c.args.sheets.now in
       let there = simp to_z-of_z at c.in-ok-at.ensures in
-      let passes = rw there.2 at (simp to_z-of_z at c.in-ok-may-reassess.ensures.own_val) in
+      let passes = rw there.2 at (simp to_z-of_z at c.in-ok-may-reassess.ensures.own) in
       let in_time : FlowsEarly c.args.sheet c.args.self.now.state → ⊥ = λ h. false≢true (c.if-flows-early.ensures.1 h) in
       let ff : SFits w32 c.flow-flow.result = record { sfits = c.flow-flow.type-inv } in
-      let own = simp to_z-of_z at c.in-ok-reassess.ensures.own_val in
+      let own = simp to_z-of_z at c.in-ok-reassess.ensures.own in
       let entered = c.in-Ok.ensures.answer in (
         sheet_clear v c.args.border c.args.period c.args.sheet there.0 there.1 passes c.in-ok-allows.field-0 c.in-ok-allows.ensures in_time entered.0,
         (

@@ -14,8 +14,8 @@ loop-border-preserved c =
     let b = c.loop-border.border in
     elim c.if-up-zone.branch [
       | then-up-zone w ↦
-          led_summed t c.args.flows.now c.args.zone b c.loop-border.sum w.flow-of-sum.result _ (search rules) (sym c.up.ensures.value ∙ w.if-up-zone.true)
-          w.flow-of-sum.ensures.value w.flow-of-sum.ensures.low w.flow-of-sum.ensures.high (omega (arith, ints)) (search rules)
+          led_summed t c.args.flows.now c.args.zone b c.loop-border.sum w.flow_of-sum.result _ (search rules) (sym c.up.ensures.value ∙ w.if-up-zone.true)
+          w.flow_of-sum.ensures.value w.flow_of-sum.ensures.low w.flow_of-sum.ensures.high (omega (arith, ints)) (search rules)
       | else-up-zone w ↦
           other_summed t c.args.flows.now c.args.zone b c.loop-border.sum _ (search rules) (λ e. w.if-up-zone.false (c.up.ensures.value ∙ e)) (search rules) (search rules)
     ]
@@ -23,7 +23,7 @@ loop-border-preserved c =
 pub returns-then-zone-gt0 : goal.returns-then-zone-gt0
 returns-then-zone-gt0 c =
     let t = c.args.self.now in
-    let flow = c.flow-of-sum-then-zone-gt0 in
+    let flow = c.flow_of-sum-then-zone-gt0 in
     let end : c.loop-border.border ≡ t.count = (let e = t.some in omega arith) in
     let few = t.few in
     let lo = c.loop-border.invariant.low in

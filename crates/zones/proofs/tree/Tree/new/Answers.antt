@@ -7,15 +7,15 @@ loop-i-init c = none_filled c.args.parents.now
 
 pub loop-i-preserved : goal.loop-i-preserved
 loop-i-preserved c =
-    let few = c.in-ok-check.ensures.0.1 in
+    let few = c.in_ok-check.ensures.0.1 in
     filled_more c.args.parents.now c.loop-i.table c.loop-i.i c.loop-i.invariant (omega arith)
 
-pub invariant-of-result : goal.invariant-of-result
-invariant-of-result c =
-    let checked = c.in-ok-check.ensures in
-    (checked.0.0, (checked.0.1, (filled_ordered c.args.parents.now c.loop-i.table c.loop-i.i c.loop-i.invariant (omega arith) checked.1, tt)))
+pub invariant_of-result : goal.invariant_of-result
+invariant_of-result c =
+    let checked = c.in_ok-check.ensures in
+    record { some = checked.0.0; few = checked.0.1; ordered = filled_ordered c.args.parents.now c.loop-i.table c.loop-i.i c.loop-i.invariant (omega arith) checked.1 }
 
 pub returns : goal.returns
 returns c =
-    let checked = c.in-ok-check.ensures in
+    let checked = c.in_ok-check.ensures in
     (checked.0, checked.1, refl, filled_all c.args.parents.now c.loop-i.table c.loop-i.i c.loop-i.invariant (omega arith))
