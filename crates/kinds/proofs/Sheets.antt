@@ -19,21 +19,7 @@ use Rattle.borders.specs.Eased.{can_period, can_room}
 use Rattle.borders.specs.Ramps.{Near30}
 use Rattle.kinds.specs.declared.sheeted.Sheeted.{Sheeted}
 use Rattle.kinds.specs.Sheets.{stated_by, sheeted, idle}
-
--- ---- what a border of ours keeps
-pub record Kept (flows lower upper : Schedule) : Type 0 where
-  pub long : length flows ≡ 24
-  pub rows : (length lower ≡ 24) × (length upper ≡ 24)
-  pub least : (p : ℤ) → neg_ℤ (pos 30000) ≤ℤ figure_in flows p
-  pub most : (p : ℤ) → figure_in flows p ≤ℤ pos 30000
-  pub top : (p : ℤ) → (neg_ℤ (pos 50000) ≤ℤ figure_in upper p) × (figure_in upper p ≤ℤ pos 30000)
-  pub bottom : (p : ℤ) → (neg_ℤ (pos 30000) ≤ℤ figure_in lower p) × (figure_in lower p ≤ℤ pos 50000)
-
-pub kept_of : {K : Type 0} (b : Sheeted K) → Kept b.flows b.lower b.upper
-kept_of b = record { long = b.long; rows = b.rows; least = b.least; most = b.most; top = b.top; bottom = b.bottom }
-
-pub limited : (flows lower upper : Schedule) → Kept flows lower upper → (p : ℤ) → Limited (figure_in lower p) (figure_in upper p)
-limited flows lower upper k p = record { top_most = (k.top p).1; top_least = (k.top p).0; bottom_least = (k.bottom p).0; bottom_most = (k.bottom p).1 }
+use Rattle.kinds.specs.SheetedLaws.{Kept, kept_of, limited, day_of, room}
 
 pub in_own_day : (s : Schedule) (p : ℤ) → length s ≡ 24 → Period 24 p → Period (length s) p
 in_own_day s p long day = subst (λ (n : ℕ). Period n p) (sym long) day
@@ -201,13 +187,6 @@ moved_near : (f u l m : ℤ) → neg_ℤ (pos 30000) ≤ℤ f → f ≤ℤ pos 3
 moved_near f u l m a b lim (inl x) = (omega (arith, ints), omega (arith, ints))
 moved_near f u l m a b lim (inr x) = (omega (arith, ints), omega (arith, ints))
 
-over_moved : (f g u l m : ℤ) → g ≡ f +ℤ m → ((pos 0 <ℤ m) × ((f +ℤ m) ≤ℤ u)) ⊎ ((m <ℤ pos 0) × (l ≤ℤ (f +ℤ m))) → int_max (pos 0) (int_max (g -ℤ u) (l -ℤ g)) ≤ℤ int_max (pos 0) (int_max (f -ℤ u) (l -ℤ f))
-over_moved f g u l m e (inl x) = omega (arith, ints, clamps)
-over_moved f g u l m e (inr x) = omega (arith, ints, clamps)
-
-le_self : (x : ℤ) → x ≤ℤ x
-le_self x = omega (arith, ints)
-
 sum_fits : (x y f m : ℤ) → x ≡ f → y ≡ m → (neg_ℤ (pos 30000) ≤ℤ (f +ℤ m)) × ((f +ℤ m) ≤ℤ pos 30000) → SFits w32 (x +ℤ y)
 sum_fits x y f m e g h = omega (arith, ints)
 
@@ -223,18 +202,12 @@ pub record Written (flows lower upper : Schedule) (k : ℕ) (p m : ℤ) : Type 0
   pub kept : Kept (moved flows p m) lower upper
 
 module _ (kind : Stated) (flows lower upper : Schedule) (p m : ℤ) (kept : Kept flows lower upper) (can : CanTake (sheeted kind flows lower upper) p m) where
-  day_of : Period (length flows) p
-  day_of = can_period (sheeted kind flows lower upper) p m can
-
-  room : ((pos 0 <ℤ m) × ((figure_in flows p +ℤ m) ≤ℤ figure_in upper p)) ⊎ ((m <ℤ pos 0) × (figure_in lower p ≤ℤ (figure_in flows p +ℤ m)))
-  room = can_room (length flows) p (figure_in flows p) (figure_in upper p) (figure_in lower p) m day_of can
-
   near : (neg_ℤ (pos 30000) ≤ℤ (figure_in flows p +ℤ m)) × ((figure_in flows p +ℤ m) ≤ℤ pos 30000)
-  near = moved_near (figure_in flows p) (figure_in upper p) (figure_in lower p) m (kept.least p) (kept.most p) (limited flows lower upper kept p) room
+  near = moved_near (figure_in flows p) (figure_in upper p) (figure_in lower p) m (kept.least p) (kept.most p) (limited flows lower upper kept p) (room kind flows lower upper p m kept can)
 
   moved_kept : Kept (moved flows p m) lower upper
   moved_kept =
-      let both = put_bound flows p (figure_in flows p +ℤ m) (neg_ℤ (pos 30000)) (pos 30000) day_of near (λ q. (kept.least q, kept.most q)) in
+      let both = put_bound flows p (figure_in flows p +ℤ m) (neg_ℤ (pos 30000)) (pos 30000) (day_of kind flows lower upper p m kept can) near (λ q. (kept.least q, kept.most q)) in
       record { long = moved_long flows p m ∙ kept.long; rows = kept.rows; least = λ q. (both q).0; most = λ q. (both q).1; top = kept.top; bottom = kept.bottom }
 
   pub take_written : (k : ℕ) → SFits w32 m → Period 24 p × (k ≡ place p) → Written flows lower upper k p m
@@ -249,35 +222,10 @@ module _ (kind : Stated) (flows lower upper : Schedule) (p m : ℤ) (kept : Kept
         kept = moved_kept;
       }
 
-  pub take_eased : (q : ℤ) → overrun (took (sheeted kind flows lower upper) p m) q ≤ℤ overrun (sheeted kind flows lower upper) q
-  unfolding overrun
-  take_eased q = elim (same_or_not q p) [
-    | inl e ↦
-        subst (λ (r : ℤ). overrun (took (sheeted kind flows lower upper) p m) r ≤ℤ overrun (sheeted kind flows lower upper) r) (sym e)
-        (over_moved (figure_in flows p) (figure_in (moved flows p m) p) (figure_in upper p) (figure_in lower p) m (changed_here flows p (figure_in flows p +ℤ m) day_of) room)
-    | inr ne ↦
-        subst (λ (f : ℤ). int_max (pos 0) (int_max (f -ℤ figure_in upper q) (figure_in lower q -ℤ f)) ≤ℤ overrun (sheeted kind flows lower upper) q) (sym (changed_other flows p (figure_in flows p +ℤ m) day_of q ne))
-        (le_self (overrun (sheeted kind flows lower upper) q))
-  ]
-
 -- what a refused move answers, passed on by `?`
 pub refused_by : (was : Meaning) (p m : ℤ) (e : BorderFault) (r : Result (Unit {0}) BorderFault) → IsErrAnd r (λ y. y ≡ e) → (CanTake was p m → ⊥) × (e ≡ Take (margin_met was p m)) → TakeAnswer was p m r was
 refused_by was p m e (Ok x) h not = absurd h
 refused_by was p m e (Err y) h not = (not.0, h ∙ not.1, refl)
-
-day_bounds : (n : ℕ) → n ≡ 24 → (1 ≤ n) × (n ≤ 100)
-day_bounds n e = (omega arith, omega arith)
-
-pub sheeted_known : (kind : Stated) (flows lower upper : Schedule) → Kept flows lower upper → Known (sheeted kind flows lower upper)
-sheeted_known kind flows lower upper kept =
-    record {
-      day_some = (day_bounds (length flows) kept.long).0;
-      day_short = (day_bounds (length flows) kept.long).1;
-      flows_within = record { least = kept.least; most = kept.most };
-      limits_within = λ s p w day. limited flows lower upper kept p;
-      take_eases = λ p m q can day. take_eased kind flows lower upper p m kept can q;
-      test_stated = λ t s p. refl;
-    }
 
 -- ---- nothing flows
 zeros : (n i : ℕ) → get_or (replicate n (pos 0)) i (pos 0) ≡ pos 0

@@ -1,3 +1,4 @@
 pub mod Kinds
 pub mod Sheets
 pub mod Passed
+pub mod SheetedLaws

@@ -2,7 +2,6 @@
 ghost use Rattle.std.specs.Prelude.{◌≡◌, length, ℤ, pos, neg_ℤ, ◌≤ℤ◌, MatchOption};
 ghost use Rattle.borders.specs.Day.{Period, place, figure_in};
 ghost use Rattle.kinds.specs.Sheets.{stated_by, sheeted, idle};
-ghost use Rattle.std.proofs.Common.{rules, arith};
 
 use crate::Kind;
 use borders::{Border, BorderFault, Sheet};
@@ -50,9 +49,11 @@ impl<K: Kind> Sheeted<K> {
 }
 
 impl<K: Kind> Border for Sheeted<K> {
+    ghost use Rattle.kinds.specs.SheetedLaws.{kept_of, sheeted_known};
+
     ghost meaning = { λ b. sheeted (stated_by K.Kind.test K.Kind.lowest K.Kind.highest) b.flows b.lower b.upper };
 
-    ghost known = { first_of (Prim.search rules, Prim.grind (arith, Self.row.coded.inj)) };
+    ghost known = { λ b. sheeted_known (stated_by K.Kind.test K.Kind.lowest K.Kind.highest) b.flows b.lower b.upper (kept_of b) };
 
     fn periods(&self) -> i32 {
         PERIODS as i32

@@ -3,7 +3,8 @@ use mathlib.Core.Bool.{false≢true}
 use Rattle.std.proofs.lemmas.Int.{to_z-of_z}
 use Rattle.borders.specs.Day.{Schedule}
 use Rattle.kinds.specs.Sheets.{stated_by}
-use Rattle.kinds.proofs.Sheets.{Inside, kept_of, admitted_inside, inside_admitted, lower_fits, upper_fits, lt_not, not_lt}
+use Rattle.kinds.specs.SheetedLaws.{kept_of}
+use Rattle.kinds.proofs.Sheets.{Inside, admitted_inside, inside_admitted, lower_fits, upper_fits, lt_not, not_lt}
 use Rattle.kinds.proofs.sheeted.SheetedBorder.admits.Goals as goal
 use Rattle.kinds.proofs.sheeted.SheetedBorder.admits.Goals.{then-flow-ltminus30000-via-then-flow-ltminus30000, then-flow-ltminus30000-via-else-flow-ltminus30000+then-flow-gt30000, then-flow-ltminus30000-via-else-flow-ltminus30000+else-flow-gt30000+then-flow-self, then-flow-ltminus30000-via-else-flow-ltminus30000+else-flow-gt30000+else-flow-self+then-flow-self-2}
 

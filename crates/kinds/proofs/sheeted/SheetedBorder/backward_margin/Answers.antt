@@ -1,9 +1,10 @@
 use Rattle.kinds.specs.Sheets.{stated_by}
-use Rattle.kinds.proofs.Sheets.{kept_of, slot_of, at_slot, backward_is}
+use Rattle.kinds.specs.SheetedLaws.{kept_of}
+use Rattle.kinds.proofs.Sheets.{slot_of, at_slot, backward_is}
 use Rattle.kinds.proofs.sheeted.SheetedBorder.backward_margin.Goals as goal
 
-pub overflow-sub-result : goal.overflow-sub-result
-overflow-sub-result g c =
+pub overflow_sub-result : goal.overflow_sub-result
+overflow_sub-result g c =
     let s = c.args.self.now in
     let slot = slot_of c.args.period c.in-Some.k c.ranges.period c.in-Some.ensures in
     (at_slot s.flows s.lower s.upper c.in-Some.k c.args.period (kept_of s) slot).backward

@@ -1,6 +1,7 @@
 use Rattle.std.proofs.Common.{sym}
 use Rattle.std.proofs.lemmas.Int.{to_z-of_z}
-use Rattle.kinds.proofs.Sheets.{kept_of, slot_of, at_slot, out_zero}
+use Rattle.kinds.specs.SheetedLaws.{kept_of}
+use Rattle.kinds.proofs.Sheets.{slot_of, at_slot, out_zero}
 use Rattle.kinds.proofs.sheeted.SheetedBorder.flow.Goals as goal
 
 pub returns-in-Some : goal.returns-in-Some

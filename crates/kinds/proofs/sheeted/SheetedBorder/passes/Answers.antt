@@ -1,6 +1,7 @@
 use Rattle.std.proofs.Common.{◌∙◌}
 use Rattle.kinds.specs.Sheets.{stated_by}
-use Rattle.kinds.proofs.Sheets.{kept_of, slot_of, passing_in}
+use Rattle.kinds.specs.SheetedLaws.{kept_of}
+use Rattle.kinds.proofs.Sheets.{slot_of, passing_in}
 use Rattle.kinds.proofs.sheeted.SheetedBorder.passes.Goals as goal
 
 pub returns-in-Some : goal.returns-in-Some
