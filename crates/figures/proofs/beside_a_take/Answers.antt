@@ -5,19 +5,19 @@ use Rattle.figures.specs.Worked.{given_kind, new, resheeted, ramped_border, wide
 use Rattle.figures.proofs.Bordered.{sheeted_again, wide_border, ramp_takes, ramped_forward, ramped_backward}
 use Rattle.figures.proofs.beside_a_take.Goals as goal
 
-pub returns-in-err-take : goal.returns-in-err-take
-returns-in-err-take c =
-    let e1 : sheeted given_kind c.reassess.new.self.flows c.reassess.new.self.lower c.reassess.new.self.upper ≡ resheeted given_kind (new given_kind) wide_sheet_lem (pos 4) = sheeted_again given_kind (pos 4) _ _ (new given_kind) _ _ c.in-ok-reassess.ensures.1.follows c.make-below.ensures c.wide-sheet-wide.ensures in
-    let e2 : sheeted given_kind c.reassess-2.new.self.flows c.reassess-2.new.self.lower c.reassess-2.new.self.upper ≡ wide_border = sheeted_again given_kind (pos 5) _ _ (resheeted given_kind (new given_kind) wide_sheet_lem (pos 4)) _ _ c.in-ok-reassess-2.ensures.1.follows e1 c.wide-sheet-wide.ensures in
+pub returns-in_err-take : goal.returns-in_err-take
+returns-in_err-take c =
+    let e1 : sheeted given_kind c.reassess.new.self.flows c.reassess.new.self.lower c.reassess.new.self.upper ≡ resheeted given_kind (new given_kind) wide_sheet_lem (pos 4) = sheeted_again given_kind (pos 4) _ _ (new given_kind) _ _ c.in_ok-reassess.ensures.1.follows c.make-below.ensures c.wide_sheet-wide.ensures in
+    let e2 : sheeted given_kind c.reassess-2.new.self.flows c.reassess-2.new.self.lower c.reassess-2.new.self.upper ≡ wide_border = sheeted_again given_kind (pos 5) _ _ (resheeted given_kind (new given_kind) wide_sheet_lem (pos 4)) _ _ c.in_ok-reassess-2.ensures.1.follows e1 c.wide_sheet-wide.ensures in
     let e3 : ramped c.in-Ok.border.rate (sheeted given_kind c.in-Ok.border.below.flows c.in-Ok.border.below.lower c.in-Ok.border.below.upper) ≡ ramped (pos 200) wide_border = c.in-Ok.ensures.1 ∙ ap (ramped (pos 200)) e2 in
-    absurd (c.in-err-take.ensures.0 (ramp_takes _ e3))
+    absurd (c.in_err-take.ensures.0 (ramp_takes _ e3))
 
 pub returns : goal.returns
 returns c =
-    let e1 : sheeted given_kind c.reassess.new.self.flows c.reassess.new.self.lower c.reassess.new.self.upper ≡ resheeted given_kind (new given_kind) wide_sheet_lem (pos 4) = sheeted_again given_kind (pos 4) _ _ (new given_kind) _ _ c.in-ok-reassess.ensures.1.follows c.make-below.ensures c.wide-sheet-wide.ensures in
-    let e2 : sheeted given_kind c.reassess-2.new.self.flows c.reassess-2.new.self.lower c.reassess-2.new.self.upper ≡ wide_border = sheeted_again given_kind (pos 5) _ _ (resheeted given_kind (new given_kind) wide_sheet_lem (pos 4)) _ _ c.in-ok-reassess-2.ensures.1.follows e1 c.wide-sheet-wide.ensures in
+    let e1 : sheeted given_kind c.reassess.new.self.flows c.reassess.new.self.lower c.reassess.new.self.upper ≡ resheeted given_kind (new given_kind) wide_sheet_lem (pos 4) = sheeted_again given_kind (pos 4) _ _ (new given_kind) _ _ c.in_ok-reassess.ensures.1.follows c.make-below.ensures c.wide_sheet-wide.ensures in
+    let e2 : sheeted given_kind c.reassess-2.new.self.flows c.reassess-2.new.self.lower c.reassess-2.new.self.upper ≡ wide_border = sheeted_again given_kind (pos 5) _ _ (resheeted given_kind (new given_kind) wide_sheet_lem (pos 4)) _ _ c.in_ok-reassess-2.ensures.1.follows e1 c.wide_sheet-wide.ensures in
     let e3 : ramped c.in-Ok.border.rate (sheeted given_kind c.in-Ok.border.below.flows c.in-Ok.border.below.lower c.in-Ok.border.below.upper) ≡ ramped (pos 200) wide_border = c.in-Ok.ensures.1 ∙ ap (ramped (pos 200)) e2 in
-    let e4 : ramped c.take.new.self.rate (sheeted given_kind c.take.new.self.below.flows c.take.new.self.below.lower c.take.new.self.below.upper) ≡ ramped_border = c.in-ok-take.ensures.1 ∙ ap (λ (b : Meaning). took b (pos 5) (pos 200)) e3 in
-    let f : c.forward-margin.result ≡ pos 200 = c.forward-margin.ensures ∙ ramped_forward _ e4 in
-    let g : c.backward-margin.result ≡ pos 0 = c.backward-margin.ensures ∙ ramped_backward _ e4 in
+    let e4 : ramped c.take.new.self.rate (sheeted given_kind c.take.new.self.below.flows c.take.new.self.below.lower c.take.new.self.below.upper) ≡ ramped_border = c.in_ok-take.ensures.1 ∙ ap (λ (b : Meaning). took b (pos 5) (pos 200)) e3 in
+    let f : c.forward_margin.result ≡ pos 200 = c.forward_margin.ensures ∙ ramped_forward _ e4 in
+    let g : c.backward_margin.result ≡ pos 0 = c.backward_margin.ensures ∙ ramped_backward _ e4 in
     simp (c.tradable.ensures, c.tradable-2.ensures, f, g) refl

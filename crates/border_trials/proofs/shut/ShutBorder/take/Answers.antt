@@ -3,4 +3,4 @@ use Rattle.std.proofs.Common.{refl}
 use Rattle.border_trials.proofs.shut.ShutBorder.take.Goals as goal
 
 pub returns : goal.returns
-returns c = (takes_none c.args.-period c.args.-m, met_none c.args.-period c.args.-m, refl)
+returns c = (takes_none c.args._period c.args._m, met_none c.args._period c.args._m, refl)
