@@ -1,5 +1,5 @@
 //! Trials of zones, ways and logs, as tables. Expected ways come from a walk over the edges by hand, not from the crates.
 #[cfg(test)]
-mod logs;
+mod log_edges;
 #[cfg(test)]
 mod ways;

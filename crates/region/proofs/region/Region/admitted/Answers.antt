@@ -14,6 +14,6 @@ loop-border-preserved g c k a b =
     let bs = g.B.Bank.borders c.args.self.now.bank in
     ⊎_elim
     (λ (e : k ≡ c.loop-border.border). subst (λ (j : ℕ). Admitted (border_at bs j) (target (zones t) (up t) rs j)) (sym e)
-    (subst (λ (s : Schedule). Admitted (border_at bs c.loop-border.border) s) c.schedule-for.ensures c.in-ok-may-adopt.ensures.own))
+    (subst (λ (s : Schedule). Admitted (border_at bs c.loop-border.border) s) c.schedule_for.ensures c.in_ok-may_adopt.ensures.own))
     (λ (ne : k ≡ c.loop-border.border → ⊥). c.loop-border.invariant k a (omega arith))
     (cases_eq k c.loop-border.border)

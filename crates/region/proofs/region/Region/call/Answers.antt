@@ -38,13 +38,13 @@ pub returns-in-AskBorder : goal.returns-in-AskBorder
 returns-in-AskBorder g c =
     let f_border : SFits w32 c.in-AskBorder.border = search rules in
     let f_period : SFits w32 c.in-AskBorder.period = search rules in
-    record { did = of_call _ _ _ _ _ c.in-AskBorder.is (simp to_z-of_z at (c.ask-border.ensures c.args.deals.now c.args.sheets.now)); deals = refl; sheets = refl }
+    record { did = of_call _ _ _ _ _ c.in-AskBorder.is (simp to_z-of_z at (c.ask_border.ensures c.args.deals.now c.args.sheets.now)); deals = refl; sheets = refl }
 
 pub returns-in-AskZone : goal.returns-in-AskZone
 returns-in-AskZone g c =
     let f_zone : SFits w32 c.in-AskZone.zone = search rules in
     let f_period : SFits w32 c.in-AskZone.period = search rules in
-    record { did = of_call _ _ _ _ _ c.in-AskZone.is (simp to_z-of_z at (c.ask-zone.ensures c.args.deals.now c.args.sheets.now)); deals = refl; sheets = refl }
+    record { did = of_call _ _ _ _ _ c.in-AskZone.is (simp to_z-of_z at (c.ask_zone.ensures c.args.deals.now c.args.sheets.now)); deals = refl; sheets = refl }
 
 -- a call of which only the state is judged
 moved_on : (v w : View) (r : Result Answer RegionFault) (call : Call) → (call ≡ Offer) ⊎ ((call ≡ Gate) ⊎ (call ≡ End)) → OnlyStateJudged v call r w → CallDid v call r w
@@ -57,4 +57,4 @@ moved_on v w r call which did =
     which
 
 pub returns-in-Offer : goal.returns-in-Offer
-returns-in-Offer g c = record { did = moved_on _ _ _ c.args.call c.in-Offer.is (c.move-on.ensures c.args.deals.now c.args.sheets.now); deals = refl; sheets = refl }
+returns-in-Offer g c = record { did = moved_on _ _ _ c.args.call c.in-Offer.is (c.move_on.ensures c.args.deals.now c.args.sheets.now); deals = refl; sheets = refl }

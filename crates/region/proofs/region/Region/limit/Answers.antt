@@ -10,25 +10,25 @@ use Rattle.book.specs.declared.fault.RegionFault.TheVariants.{Amount}
 use Rattle.region.specs.Seen.{seen, limit_call, position_call, ask_border_lem, ask_zone_lem}
 use Rattle.region.proofs.region.Region.limit.Goals as goal
 
-pub returns-in-err-at : goal.returns-in-err-at
-returns-in-err-at g c deals sheets =
+pub returns-in_err-at : goal.returns-in_err-at
+returns-in_err-at g c deals sheets =
     let fz = c.ranges.zone in
     let fp = c.ranges.period in
     let v = seen g.B.Bank.borders c.args.self.now deals sheets in
     let call = limit_call c.args.zone c.args.period c.args.import c.args.export in
-    refused v call c.from-residual.result c.in-err-at.field-0.0 c.from-residual.ensures.1
-    (refused_early (no_period c.args.period ∷ no_zone (zones c.args.self.now.tree) c.args.zone c.args.period ∷ []) (bad_amount (LimitAllowed c.args.import × LimitAllowed c.args.export) c.args.period ∷ wrong_state v call c.args.period ∷ []) c.in-err-at.field-0.0
-    (simp to_z-of_z at c.in-err-at.ensures))
+    refused v call c.from_residual.result c.in_err-at.field-0.0 c.from_residual.ensures.1
+    (refused_early (no_period c.args.period ∷ no_zone (zones c.args.self.now.tree) c.args.zone c.args.period ∷ []) (bad_amount (LimitAllowed c.args.import × LimitAllowed c.args.export) c.args.period ∷ wrong_state v call c.args.period ∷ []) c.in_err-at.field-0.0
+    (simp to_z-of_z at c.in_err-at.ensures))
 
-pub returns-then-not-limits-allowed : goal.returns-then-not-limits-allowed
-returns-then-not-limits-allowed g c deals sheets =
+pub returns-then-not-limits_allowed : goal.returns-then-not-limits_allowed
+returns-then-not-limits_allowed g c deals sheets =
     let fz = c.ranges.zone in
     let fp = c.ranges.period in
     let fi = c.ranges.import in
     let fe = c.ranges.export in
     let v = seen g.B.Bank.borders c.args.self.now deals sheets in
-    let there = simp to_z-of_z at c.in-ok-at.ensures in
-    let only_if = simp to_z-of_z at c.if-not-limits-allowed.ensures.1 in
+    let there = simp to_z-of_z at c.in_ok-at.ensures in
+    let only_if = simp to_z-of_z at c.if-not-limits_allowed.ensures.1 in
     let clear = zone_clear (zones c.args.self.now.tree) c.args.zone c.args.period there.0 there.1 in
     (inr (clear.0, inr (clear.1.0, inl ((λ h. false≢true (only_if h)), ap Amount (to_z-of_z w32 c.args.period fp)))), refl)
 
@@ -40,19 +40,19 @@ returns g c deals sheets =
     let fe = c.ranges.export in
     let v = seen g.B.Bank.borders c.args.self.now deals sheets in
     let call = limit_call c.args.zone c.args.period c.args.import c.args.export in
-    let there = simp to_z-of_z at c.in-ok-at.ensures in
-    let allowed = simp to_z-of_z at (c.if-not-limits-allowed.ensures.0 refl) in
+    let there = simp to_z-of_z at c.in_ok-at.ensures in
+    let allowed = simp to_z-of_z at (c.if-not-limits_allowed.ensures.0 refl) in
     let clear = zone_clear (zones c.args.self.now.tree) c.args.zone c.args.period there.0 there.1 in
-    let filled = simp to_z-of_z at c.give-limit.ensures.changed in (
+    let filled = simp to_z-of_z at c.give_limit.ensures.changed in (
       (
         clear.0,
         (
           clear.1.0,
           (
             amount_clear (LimitAllowed c.args.import × LimitAllowed c.args.export) c.args.period allowed,
-            (state_clear v call c.args.period c.in-ok-allows.field-0 c.in-ok-allows.ensures, tt),
+            (state_clear v call c.args.period c.in_ok-allows.field-0 c.in_ok-allows.ensures, tt),
           ),
         ),
       ),
-      (refl, only_record v _ _ c.args.period _ c.give-limit.ensures.many (let few = c.args.self.now.tree.few in let in_tree = there.3 in omega arith) there.0 (rw there.2 at filled)),
+      (refl, only_record v _ _ c.args.period _ c.give_limit.ensures.many (let few = c.args.self.now.tree.few in let in_tree = there.3 in omega arith) there.0 (rw there.2 at filled)),
     )

@@ -12,18 +12,18 @@ loop-border-init g c = none_collected _ _ (search rules)
 pub loop-border-preserved : goal.loop-border-preserved
 loop-border-preserved g c =
     let few = c.count-border-end.ensures.range.1 in
-    collected_more _ c.loop-border.flows c.loop-border.border _ c.loop-border.auto.border (omega arith) (to_z-of_z w32 c.flow.result (record { sfits = c.flow.type-inv }) ∙ c.flow.ensures) c.loop-border.invariant
+    collected_more _ c.loop-border.flows c.loop-border.border _ c.loop-border.auto.border (omega arith) (to_z-of_z w32 c.flow.result (record { sfits = c.flow.type_inv }) ∙ c.flow.ensures) c.loop-border.invariant
 
 pub returns : goal.returns
 returns g c =
     let t = c.args.self.now.tree in
     let end : c.loop-border.border ≡ zones t = (let few = c.count-border-end.ensures.range.0 in omega arith) in
     let fp = c.ranges.period in
-    let fr : SFits w64 c.net-position.result = record { sfits = c.net-position.type-inv } in
+    let fr : SFits w64 c.net_position.result = record { sfits = c.net_position.type_inv } in
     let flow = λ (k : ℕ). flow_of (border_at (g.B.Bank.borders c.args.self.now.bank) k) c.args.period in
     let all : Collected flow c.loop-border.flows c.loop-border.border = simp to_z-of_z at c.loop-border.invariant in
     record {
-      value = to_z-of_z w64 c.net-position.result fr ∙ c.net-position.ensures.value
+      value = to_z-of_z w64 c.net_position.result fr ∙ c.net_position.ensures.value
           ∙ net_collected t flow c.loop-border.flows c.args.zone (subst (λ (k : ℕ). Collected flow c.loop-border.flows k) end all) c.requires;
       range = search rules;
     }

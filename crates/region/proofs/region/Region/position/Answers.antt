@@ -9,15 +9,15 @@ use Rattle.region.proofs.Nets.{position_fits}
 use Rattle.region.specs.Seen.{seen, limit_call, position_call, ask_border_lem, ask_zone_lem}
 use Rattle.region.proofs.region.Region.position.Goals as goal
 
-pub returns-in-err-at : goal.returns-in-err-at
-returns-in-err-at g c deals sheets =
+pub returns-in_err-at : goal.returns-in_err-at
+returns-in_err-at g c deals sheets =
     let fz = c.ranges.zone in
     let fp = c.ranges.period in
     let v = seen g.B.Bank.borders c.args.self.now deals sheets in
     let call = position_call c.args.zone c.args.period c.args.mw in
-    refused v call c.from-residual.result c.in-err-at.field-0.0 c.from-residual.ensures.1
-    (refused_early (no_period c.args.period ∷ no_zone (zones c.args.self.now.tree) c.args.zone c.args.period ∷ []) (bad_amount (PositionAllowed c.args.mw) c.args.period ∷ wrong_state v call c.args.period ∷ []) c.in-err-at.field-0.0
-    (simp to_z-of_z at c.in-err-at.ensures))
+    refused v call c.from_residual.result c.in_err-at.field-0.0 c.from_residual.ensures.1
+    (refused_early (no_period c.args.period ∷ no_zone (zones c.args.self.now.tree) c.args.zone c.args.period ∷ []) (bad_amount (PositionAllowed c.args.mw) c.args.period ∷ wrong_state v call c.args.period ∷ []) c.in_err-at.field-0.0
+    (simp to_z-of_z at c.in_err-at.ensures))
 
 pub returns : goal.returns
 returns g c deals sheets =
@@ -26,8 +26,8 @@ returns g c deals sheets =
     let fm = c.ranges.mw in
     let v = seen g.B.Bank.borders c.args.self.now deals sheets in
     let call = position_call c.args.zone c.args.period c.args.mw in
-    let there = simp to_z-of_z at c.in-ok-at.ensures in
-    let allowed = simp to_z-of_z at (c.if-not-position-allowed.ensures.0 refl) in
+    let there = simp to_z-of_z at c.in_ok-at.ensures in
+    let allowed = simp to_z-of_z at (c.if-not-position_allowed.ensures.0 refl) in
     let clear = zone_clear (zones c.args.self.now.tree) c.args.zone c.args.period there.0 there.1 in
     let f16 = position_fits c.args.mw allowed in
     let filled = simp to_z-of_z at c.stage.ensures.changed in (
@@ -37,7 +37,7 @@ returns g c deals sheets =
           clear.1.0,
           (
             amount_clear (PositionAllowed c.args.mw) c.args.period allowed,
-            (state_clear v call c.args.period c.in-ok-allows.field-0 c.in-ok-allows.ensures, tt),
+            (state_clear v call c.args.period c.in_ok-allows.field-0 c.in_ok-allows.ensures, tt),
           ),
         ),
       ),

@@ -14,12 +14,12 @@ returns-in-Some c =
     let import : c.from-in-Some.result ≡ l.import = c.from-in-Some.ensures ∙ to_z-of_z w32 l.import fi in
     let lo = c.requires.0 in
     let hi = c.requires.1 in
-    let f1 : SFits w64 c.from.result = record { sfits = c.from.type-inv } in
-    let f2 : SFits w64 c.from-in-Some.result = record { sfits = c.from-in-Some.type-inv } in
+    let f1 : SFits w64 c.from.result = record { sfits = c.from.type_inv } in
+    let f2 : SFits w64 c.from-in-Some.result = record { sfits = c.from-in-Some.type_inv } in
     let f3 : SFits w64 (pos 0 -ℤ c.from-in-Some.result) = omega (arith, ints) in
     let f4 : SFits w64 (n -ℤ c.from.result) = omega (arith, ints) in
     let f5 : SFits w64 ((pos 0 -ℤ c.from-in-Some.result) -ℤ n) = omega (arith, ints) in
-    let fr : SFits w64 c.largest.result = record { sfits = c.largest.type-inv } in
+    let fr : SFits w64 c.largest.result = record { sfits = c.largest.type_inv } in
     let found = simp to_z-of_z at c.largest.ensures in
     let turned : (pos 0 -ℤ l.import) -ℤ n ≡ neg_ℤ l.import -ℤ n = omega (arith, ints) in
     rw c.in-Some.is (to_z-of_z w64 c.largest.result fr ∙ (rw (export, import) at found) ∙ ap (λ x. int_max (pos 0) (int_max (n -ℤ l.export) x)) turned)
