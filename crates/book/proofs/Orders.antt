@@ -1,5 +1,5 @@
 -- How grounds judged one after another make up the list of a call's grounds.
-use Rattle.std.proofs.Common.{◌≡◌, ℕ, ◌⊎◌, List, [], ◌∷◌, ◌++◌, ℤ, IsErrAnd, Some, None, Ok, Err, Result, sym, refl, ◌∙◌, subst, inl, inr, ⊎_elim, arith}
+use Rattle.std.proofs.Common.{◌≡◌, ℕ, List, [], ◌∷◌, ◌++◌, ℤ, IsErrAnd, Some, None, Ok, Err, Result, sym, refl, ◌∙◌, subst, inl, inr, ⊎_elim, arith}
 use Rattle.book.specs.declared.fault.RegionFault.{RegionFault}
 use Rattle.book.specs.declared.state.State.{State}
 use Rattle.book.specs.declared.Answer.{Answer}

@@ -7,7 +7,6 @@ use Rattle.borders.specs.Bank.{border_at}
 use Rattle.borders.specs.declared.Sheet.{Sheet}
 use Rattle.borders.specs.declared.BorderFault.{BorderFault}
 use Rattle.borders.specs.declared.BorderFault.TheVariants.{Adopt, Reassess}
-use Rattle.borders.specs.declared.bank.BankFault.{BankFault}
 use Rattle.zones.specs.Sums.{total}
 use Rattle.zones.specs.Ways.{sum_behind}
 use Rattle.logs.specs.Entries.{capacity_of}

@@ -1,5 +1,5 @@
 -- When a region can be made, and how it begins.
-use Rattle.std.specs.Prelude.{◌≡◌, ℕ, ◌+◌, ◌*◌, ◌<◌, ◌≤◌, Bool, true, false, List, length, replicate, ℤ, pos, ◌≢◌}
+use Rattle.std.specs.Prelude.{◌≡◌, ℕ, ◌+◌, ◌*◌, ◌≤◌, Bool, true, false, List, length, replicate, pos, ◌≢◌}
 use Rattle.borders.specs.Border.{Meaning, flow_of}
 use Rattle.borders.specs.Bank.{border_at}
 use Rattle.zones.specs.Trees.{parent_in, CountAllowed, ParentAllowed, AllowedBelow}

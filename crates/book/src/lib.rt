@@ -1,4 +1,6 @@
 //! What a region's day is told in: states, calls, answers, records of the logs, and faults.
+#![tactic(auto)]
+
 ghost use Rattle.std.specs.Prelude.{◌≡◌};
 ghost use Rattle.book.specs.Limits.{staged_anew, limited_anew};
 

@@ -1,15 +1,14 @@
 -- A border over which nothing flows keeps the laws of a border.
-use Rattle.std.specs.Prelude.{◌≡◌, ℕ, zero, suc, ◌<◌, ◌≤◌, Bool, true, false, cond, ◌⊎◌, List, [], ◌∷◌, length, get_or, ℤ, pos, ◌-ℤ◌, neg_ℤ, ◌≤ℤ◌, ◌<ℤ◌, FitsSigned, ◌==◌, int_lt, slice_index_or, refl}
+use Rattle.std.specs.Prelude.{◌≡◌, ℕ, zero, suc, Bool, true, false, cond, ◌⊎◌, [], ◌∷◌, length, get_or, ℤ, pos, ◌-ℤ◌, neg_ℤ, ◌≤ℤ◌, ◌<ℤ◌, FitsSigned, ◌==◌, int_lt, slice_index_or, refl}
 use Rattle.std.proofs.Common.{sym, ap, subst, ◌∙◌, inl, inr, arith, of_z}
 use Rattle.std.specs.Int.{w32}
 use Rattle.std.proofs.lemmas.Bool.{eqb-true}
 use Rattle.std.proofs.lemmas.Int.{ints}
-use Rattle.borders.specs.Day.{Schedule, Period, in_day, place, figure_in, Within}
-use Rattle.borders.specs.Limits.{Limited}
+use Rattle.borders.specs.Day.{Schedule, Period, in_day, place, figure_in}
 use Rattle.borders.specs.declared.BorderFault.TheVariants.{Take}
 use Rattle.borders.specs.Border.{margin_met, CanTake, Admitted, forward_of, backward_of, flow_of}
 use Rattle.borders.specs.Laws.{Known}
-use Rattle.borders.specs.Days.{by_day, day_or_not, figure_day, figure_out}
+use Rattle.borders.specs.Days.{day_or_not, figure_day, figure_out}
 use Rattle.border_trials.specs.Shut.{closed}
 
 zeros : (k : ℕ) → slice_index_or (pos 0 ∷ []) k (pos 0) ≡ pos 0

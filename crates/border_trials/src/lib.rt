@@ -1,3 +1,5 @@
 //! Trials of borders, with a make of border that is not ours.
+#![tactic(auto)]
+
 mod borders_at_edges;
 pub mod shut;

@@ -1,13 +1,11 @@
 -- What a take that is refused answers, and how large a margin is.
-use Rattle.std.proofs.Common.{◌≡◌, Bool, true, false, cond, ◌⊎◌, ℤ, pos, ◌+ℤ◌, ◌-ℤ◌, neg_ℤ, ◌≤ℤ◌, ◌<ℤ◌, Ok, Err, Result, sym, refl, ap, ◌∙◌, inl, inr, arith, w32, SFits}
+use Rattle.std.proofs.Common.{◌≡◌, Bool, true, false, cond, ◌⊎◌, ℤ, pos, ◌-ℤ◌, neg_ℤ, ◌≤ℤ◌, ◌<ℤ◌, ap, ◌∙◌, inl, inr, arith, w32, SFits}
 use lib.Signed.{lt_z}
 use Rattle.std.proofs.lemmas.Int.{ints}
-use Rattle.borders.specs.declared.BorderFault.{BorderFault}
-use Rattle.borders.specs.declared.BorderFault.TheVariants.{Take, Adopt, Reassess}
-use Rattle.borders.specs.Day.{Period, Within, figure_in, in_day}
+use Rattle.borders.specs.declared.BorderFault.TheVariants.{Take}
+use Rattle.borders.specs.Day.{Period, Within, in_day}
 use Rattle.borders.specs.Limits.{Limited}
-use Rattle.borders.specs.Border.{Meaning, CanTake, forward_of, backward_of, margin_met, top, bottom, took, days_length, flow_of}
-use Rattle.borders.specs.Answers.{TakeAnswer}
+use Rattle.borders.specs.Border.{Meaning, CanTake, forward_of, backward_of, margin_met, top, bottom, days_length, flow_of}
 use Rattle.borders.specs.Days.{by_day, day_true}
 
 below_zero : (m x y : ℤ) → m <ℤ pos 0 → x ≡ cond (lt_z m (pos 0)) x y

@@ -1,10 +1,10 @@
 -- What the calls on a border answer, with its meaning before and after.
-use Rattle.std.specs.Prelude.{◌≡◌, Bool, true, false, cond, ◌&&◌, ℤ, pos, IfSome, Result, MatchResult, ◌≢◌, int_le}
+use Rattle.std.specs.Prelude.{◌≡◌, Bool, true, false, cond, ◌&&◌, ℤ, IfSome, Result, MatchResult, ◌≢◌, int_le}
 use Rattle.borders.specs.declared.Sheet.{Sheet}
 use Rattle.borders.specs.declared.BorderFault.{BorderFault}
 use Rattle.borders.specs.declared.BorderFault.TheVariants.{Take, Adopt, Reassess}
-use Rattle.borders.specs.Day.{Schedule, figure_in}
-use Rattle.borders.specs.Border.{Meaning, Rule, Stated, flow_of, passing, CanTake, margin_met, Admitted, with_schedule, took}
+use Rattle.borders.specs.Day.{Schedule}
+use Rattle.borders.specs.Border.{Meaning, Rule, flow_of, passing, CanTake, margin_met, Admitted, with_schedule, took}
 
 abbrev pub same_period : ℤ → ℤ → Bool
 same_period q p = int_le q p && int_le p q

@@ -1,5 +1,5 @@
 -- Borders told by number from 1.
-use Rattle.std.specs.Prelude.{◌≡◌, ℕ, ◌-◌, false, cond, List, [], ◌∷◌, length, ℤ, pos, negsuc, IfErr, None, Ok, Err, Result, ◌==◌, ◌≢◌}
+use Rattle.std.specs.Prelude.{◌≡◌, ℕ, ◌-◌, false, cond, List, [], ◌∷◌, length, ℤ, pos, IfErr, None, Ok, Err, Result, ◌==◌, ◌≢◌}
 use Rattle.borders.specs.declared.BorderFault.{BorderFault}
 use Rattle.borders.specs.declared.bank.BankFault.{BankFault}
 use Rattle.borders.specs.Border.{Meaning}

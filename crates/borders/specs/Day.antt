@@ -1,5 +1,5 @@
 -- The periods of a delivery day, and a schedule of flows over them.
-use Rattle.std.specs.Prelude.{◌≡◌, ℕ, ◌-◌, Bool, cond, ◌&&◌, List, length, ℤ, pos, ◌+ℤ◌, neg_ℤ, ◌≤ℤ◌, int_le, slice_index_or, slice_set, unsigned_abs}
+use Rattle.std.specs.Prelude.{ℕ, ◌-◌, Bool, cond, ◌&&◌, List, length, ℤ, pos, ◌+ℤ◌, neg_ℤ, ◌≤ℤ◌, int_le, slice_index_or, slice_set, unsigned_abs}
 
 -- one flow for each period, in MW, period 1 first, forward positive
 abbrev pub Schedule : Type 0

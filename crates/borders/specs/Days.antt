@@ -1,10 +1,8 @@
 -- Periods of the day, and figures by period.
-use Rattle.std.specs.Prelude.{◌≡◌, ℕ, ◌+◌, ◌-◌, ◌<◌, ◌≤◌, Bool, true, false, cond, ◌&&◌, ◌≢◌, ◌⊎◌, length, ℤ, pos, negsuc, ◌+ℤ◌, ◌-ℤ◌, neg_ℤ, ◌≤ℤ◌, ◌<ℤ◌, slice_index_or, slice_set, refl}
-use Rattle.std.proofs.Common.{sym, ap, ◌∙◌, subst, inl, inr, arith, length-set, get_or-set_same, get_or-set_other, SFits, to_z, of_z}
-use Rattle.std.specs.Int.Signed.{lt_z, le_z}
-use Rattle.std.specs.Int.{w32}
-use Rattle.std.proofs.lemmas.Int.{ints, to_z-of_z, by_lt_z}
-use Rattle.borders.specs.Day.{Schedule, Period, in_day, place, figure_in, moved, Within}
+use Rattle.std.specs.Prelude.{◌≡◌, ℕ, ◌<◌, Bool, true, false, cond, ◌≢◌, ◌⊎◌, length, ℤ, pos, slice_index_or, slice_set, refl}
+use Rattle.std.proofs.Common.{sym, ap, ◌∙◌, subst, inl, inr, arith, length-set, get_or-set_same, get_or-set_other}
+use Rattle.std.proofs.lemmas.Int.{ints, by_lt_z}
+use Rattle.borders.specs.Day.{Schedule, Period, in_day, place, figure_in, moved}
 
 pub day_true : (n : ℕ) (p : ℤ) → Period n p → in_day n p ≡ true
 day_true n p h = grind (arith, ints)

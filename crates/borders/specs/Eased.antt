@@ -1,13 +1,13 @@
 -- An accepted take enlarges no overrun, over a ramp.
-use Rattle.std.specs.Prelude.{◌≡◌, ℕ, ◌+◌, ◌-◌, ◌<◌, ◌≤◌, Bool, true, false, cond, ◌⊎◌, length, get_or, set, ℤ, pos, negsuc, ◌+ℤ◌, ◌-ℤ◌, neg_ℤ, ◌≤ℤ◌, ◌<ℤ◌, refl}
-use Rattle.std.proofs.Common.{sym, ap, ◌∙◌, subst, inl, inr, arith}
-use Rattle.std.specs.Int.{int_max, int_min}
+use Rattle.std.specs.Prelude.{◌≡◌, ℕ, Bool, cond, ◌⊎◌, length, ℤ, pos, ◌+ℤ◌, ◌-ℤ◌, neg_ℤ, ◌≤ℤ◌, ◌<ℤ◌, refl}
+use Rattle.std.proofs.Common.{ap, ◌∙◌, subst, inl, inr, arith}
+use Rattle.std.specs.Int.{int_max}
 use Rattle.std.proofs.lemmas.Int.{ints, clamps}
-use Rattle.borders.specs.Day.{Period, in_day, Schedule, figure_in, Within, place, moved}
+use Rattle.borders.specs.Day.{Period, in_day, Schedule, figure_in, moved}
 use Rattle.borders.specs.Limits.{capped_by, lifted_by, ramped_upper, ramped_lower}
 use Rattle.borders.specs.Border.{Meaning, CanTake, overrun, took, ramped, top, bottom, days_length, flow_of}
 use Rattle.borders.specs.Days.{by_day, day_true, same_or_not, changed_here, changed_other, moved_long}
-use Rattle.borders.specs.Ramps.{capped_day, lifted_day, capped_most, lifted_least, upper_less, lower_more, capped_above, lifted_below, can_below, ≤ℤ_trans}
+use Rattle.borders.specs.Ramps.{capped_day, lifted_day, capped_most, lifted_least, upper_less, lower_more, capped_above, lifted_below, ≤ℤ_trans}
 
 -- ---- what a take in period p says of p and of a neighbour n
 can_in : (n : ℕ) (p f b m : ℤ) → ((pos 0 <ℤ m) × (m ≤ℤ cond (in_day n p) f (pos 0))) ⊎ ((m <ℤ pos 0) × (neg_ℤ m ≤ℤ cond (in_day n p) b (pos 0))) → Period n p

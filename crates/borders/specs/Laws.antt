@@ -1,5 +1,5 @@
 -- The laws that bind every make of border.
-use Rattle.std.specs.Prelude.{◌≡◌, ℕ, ◌≤◌, List, [], ◌∷◌, ℤ, ◌≤ℤ◌, IfSome}
+use Rattle.std.specs.Prelude.{◌≡◌, ◌≤◌, List, [], ◌∷◌, ℤ, ◌≤ℤ◌, IfSome}
 use Rattle.borders.specs.declared.Sheet.{Sheet}
 use Rattle.borders.specs.Day.{Schedule, Period, figure_in, Within}
 use Rattle.borders.specs.Limits.{Limited}

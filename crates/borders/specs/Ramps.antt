@@ -1,16 +1,15 @@
 -- What a ramp keeps of the border below.
-use Rattle.std.specs.Prelude.{◌≡◌, ℕ, ◌+◌, ◌-◌, ◌<◌, ◌≤◌, Bool, true, false, cond, ◌&&◌, ◌⊎◌, length, get_or, ℤ, pos, negsuc, ◌+ℤ◌, ◌-ℤ◌, neg_ℤ, ◌≤ℤ◌, ◌<ℤ◌, IfSome, Some, None, Ok, Err, Option, Result, FitsSigned, int_lt, slice_index_or, refl}
+use Rattle.std.specs.Prelude.{◌≡◌, ℕ, ◌+◌, ◌-◌, ◌<◌, ◌≤◌, Bool, true, false, cond, length, get_or, ℤ, pos, ◌+ℤ◌, ◌-ℤ◌, neg_ℤ, ◌≤ℤ◌, IfSome, Some, None, Ok, Err, Option, Result, FitsSigned, int_lt, slice_index_or, refl}
 use Rattle.std.proofs.Common.{sym, ap, ◌∙◌, subst, inl, inr, arith}
 use Rattle.std.proofs.Math.Path.{fun_ext}
-use Rattle.std.specs.Int.Signed.{le_z}
 use Rattle.std.specs.Int.{int_max, int_min, w32}
 use Rattle.std.proofs.lemmas.Int.{ints, clamps}
 use Rattle.borders.specs.declared.Sheet.{Sheet}
 use Rattle.borders.specs.declared.BorderFault.{BorderFault}
-use Rattle.borders.specs.Day.{Period, in_day, Schedule, figure_in, Within, place, moved}
+use Rattle.borders.specs.Day.{Period, Schedule, figure_in, Within, place}
 use Rattle.borders.specs.Limits.{Limited, capped_by, lifted_by, ramped_upper, ramped_lower}
 use Rattle.borders.specs.Border.{Meaning, Rule, Stated, ramped_stated, Admitted, CanTake, forward_of, backward_of, flow_of, top, bottom, days_length, ramped}
-use Rattle.borders.specs.Answers.{TakeAnswer, AdoptAnswer, ReassessAnswer, Reassessed, same_period, with_limit, with_limits}
+use Rattle.borders.specs.Answers.{TakeAnswer, AdoptAnswer, ReassessAnswer, same_period, with_limit, with_limits}
 use Rattle.std.specs.Option.{option_map}
 use Rattle.borders.specs.Days.{by_day, day_true, day_false, figure_day}
 

@@ -1,4 +1,6 @@
 //! Borders: one interface with a meaning and laws, the ramp over any border, and the bank that holds borders of different makes.
+#![tactic(auto)]
+
 pub mod bank;
 pub mod border;
 pub mod ramp;

@@ -1,11 +1,10 @@
 -- Ground 7: which answer is right where it applies, and where it does not.
-use Rattle.std.proofs.Common.{◌≡◌, ℕ, suc, ◌+◌, ◌<◌, Bool, true, false, cond, ltb, List, length, Some, None, Ok, Err, sym, refl, ap, ◌∙◌, add-one, arith, ltb-false}
+use Rattle.std.proofs.Common.{◌≡◌, ℕ, suc, ◌+◌, ◌<◌, Bool, true, false, cond, ltb, List, length, Some, None, Ok, Err, refl, add-one, arith, ltb-false}
 use Rattle.std.proofs.lemmas.List.Sums.{prefix_len-le-length}
 use Rattle.std.proofs.lemmas.Bool.{lt-ltb, le-ltb}
 use Rattle.std.specs.List.{prefix_len}
-use Rattle.equations.specs.declared.fault.FigureFault.{FigureFault}
 use Rattle.equations.specs.declared.fault.FigureFault.TheVariants.{Overall, Entry}
-use Rattle.equations.specs.Grounds.{refused_at, Judged, out_of_bounds}
+use Rattle.equations.specs.Grounds.{refused_at, Judged}
 
 module _ {X R : Type 0} (P : R → Type 0) (whole : Bool) (allowed : X → Bool) (xs : List X) where
   pub judged_overall : whole ≡ false → Judged (refused_at whole allowed xs) P (Err Overall)

@@ -1,6 +1,6 @@
 -- Products of whole numbers: how far from 0 they lie, and their order.
-use Rattle.std.proofs.Common.{◌≡◌, ℕ, zero, suc, ◌+◌, ◌-◌, ◌*◌, ◌/◌, ◌^◌, ◌<◌, ◌≤◌, Bool, true, false, ℤ, pos, negsuc, ◌+ℤ◌, ◌-ℤ◌, ◌*ℤ◌, neg_ℤ, nat_abs, ◌≤ℤ◌, ◌<ℤ◌, MatchBool, sym, refl, ap, ◌∙◌, subst, mul-le-mul, div-le_self, arith, w64, SFits}
-use lib.Signed.{le_z, quot_z}
+use Rattle.std.proofs.Common.{◌≡◌, ℕ, zero, suc, ◌*◌, ◌^◌, ◌<◌, ◌≤◌, Bool, true, false, ℤ, pos, negsuc, ◌*ℤ◌, neg_ℤ, nat_abs, ◌≤ℤ◌, ◌<ℤ◌, MatchBool, sym, refl, subst, mul-le-mul, arith, w64, SFits}
+use lib.Signed.{le_z}
 use Rattle.equations.specs.Ranges.{Near}
 use Rattle.std.proofs.lemmas.Int.{ints}
 

@@ -1,5 +1,5 @@
 -- What is reached below the margin, and where nothing is reached any more.
-use Rattle.std.proofs.Common.{◌≡◌, ℕ, zero, suc, ◌+◌, ◌-◌, ◌*◌, ◌/◌, ◌^◌, ◌<◌, ◌≤◌, ◌⊎◌, ℤ, pos, negsuc, ◌+ℤ◌, ◌-ℤ◌, ◌*ℤ◌, neg_ℤ, nat_abs, ◌≤ℤ◌, ◌<ℤ◌, sym, refl, ap, ◌∙◌, subst, inl, inr, ⊎_elim, mul-le-mul, div-le_self, arith, w64, SFits}
+use Rattle.std.proofs.Common.{◌≡◌, ℕ, zero, suc, ◌*◌, ◌≤◌, ℤ, pos, negsuc, ◌+ℤ◌, ◌-ℤ◌, ◌*ℤ◌, neg_ℤ, nat_abs, ◌≤ℤ◌, refl, ap, ◌∙◌, inl, inr, mul-le-mul, div-le_self, arith, w64, SFits}
 use lib.IntN.{+ℤ_idr, +ℤ-suc_ℤ, suc_ℤ-*ℤ}
 use lib.Signed.{quot_z}
 use Rattle.std.proofs.lemmas.Int.{ints, by_lt_z}

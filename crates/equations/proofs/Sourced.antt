@@ -1,5 +1,5 @@
 -- A source within its bounds: what it weighs, and that all are where no first one is refused.
-use Rattle.std.proofs.Common.{◌≡◌, ℕ, zero, suc, ◌+◌, ◌*◌, ◌<◌, ◌≤◌, Bool, true, false, cond, List, [], ◌∷◌, length, get_or, ℤ, pos, negsuc, ◌*ℤ◌, neg_ℤ, ◌≤ℤ◌, sym, refl, ap, ◌∙◌, subst, arith}
+use Rattle.std.proofs.Common.{◌≡◌, ℕ, zero, suc, ◌+◌, ◌*◌, ◌<◌, Bool, true, false, cond, List, [], ◌∷◌, length, get_or, ℤ, pos, negsuc, ◌*ℤ◌, ◌≤ℤ◌, refl, arith}
 use Rattle.std.proofs.lemmas.Int.{ints}
 use Rattle.std.proofs.lemmas.Bool.Decides.{nat_tests}
 use Rattle.std.specs.List.{prefix_len}
@@ -7,7 +7,6 @@ use Rattle.equations.specs.declared.sources.Source.{Source}
 use Rattle.equations.specs.declared.sources.Row.{Row}
 use Rattle.equations.specs.declared.sources.Row.TheVariants.{Hundred, Fifty, Zero}
 use Rattle.equations.specs.Reserves.{source_allowed, coefficient}
-use Rattle.equations.specs.Ranges.{Near}
 use Rattle.equations.proofs.Products.{near_product}
 
 -- what the code reads past the end of a slice, which it never does

@@ -1,4 +1,6 @@
 //! The figures that everything above rests on: margin, reserve, and the capacities of a border. Numbers only.
+#![tactic(auto)]
+
 pub mod capacity;
 pub mod deviations;
 pub mod fault;

@@ -1,10 +1,10 @@
 -- The borders of the worked figures: what each is after its calls.
-use Rattle.std.proofs.Common.{◌≡◌, ℤ, pos, neg_ℤ, ◌≤ℤ◌, sym, refl, ap, ◌∙◌, subst, inl, arith}
+use Rattle.std.proofs.Common.{◌≡◌, ℤ, pos, neg_ℤ, ap, ◌∙◌, inl, arith}
 use Rattle.std.proofs.lemmas.Int.{ints}
 use Rattle.borders.specs.declared.Sheet.{Sheet}
 use Rattle.borders.specs.Day.{figure_in}
 use Rattle.borders.specs.Limits.{capped_by, lifted_by}
-use Rattle.borders.specs.Border.{Meaning, Stated, CanTake, forward_of, backward_of, took, ramped}
+use Rattle.borders.specs.Border.{Meaning, Stated, CanTake, forward_of, backward_of, ramped}
 use Rattle.figures.specs.Worked.{cable_kind, given_kind, new, resheeted, cable_sheet_lem, wide_sheet_lem, derated_cable_lem, ramped_border}
 
 pub sheeted_again : (kind : Stated) (p : ℤ) (was new known : Meaning) (t u : Sheet) → new ≡ resheeted kind was t p → was ≡ known → t ≡ u → new ≡ resheeted kind known u p

@@ -1,7 +1,7 @@
 -- The margins of the worked figures, and that the expected numbers follow from the rules.
-use Rattle.std.proofs.Common.{◌≡◌, List, [], ◌∷◌, ℤ, pos, neg_ℤ, refl, inl, inr, ⊎_elim}
+use Rattle.std.proofs.Common.{[], ◌∷◌, pos, neg_ℤ, refl, inl, inr, ⊎_elim}
 use Rattle.equations.specs.Sums.{total}
-use Rattle.equations.specs.Margins.{MarginOf, Reached}
+use Rattle.equations.specs.Margins.{MarginOf}
 use Rattle.equations.specs.Capacities.{line_available}
 use Rattle.borders.specs.Day.{figure_in}
 use Rattle.borders.specs.Limits.{capped_by, lifted_by}

@@ -1,4 +1,6 @@
 //! The worked figures: one list, computed, and shown to follow from the written rules.
+#![tactic(auto)]
+
 ghost use Rattle.std.specs.Prelude.{◌≡◌, neg_ℤ, MatchResult};
 ghost use Rattle.std.specs.Int.{int_min};
 ghost use Rattle.equations.specs.Capacities.{net_capacity, cut_at_0};

@@ -2,24 +2,20 @@
 use Rattle.std.proofs.Common.{◌≡◌, ℕ, zero, suc, ◌+◌, ◌<◌, ◌≤◌, Bool, true, false, cond, ◌&&◌, ◌⊎◌, length, get_or, set, replicate, ℤ, pos, ◌+ℤ◌, ◌-ℤ◌, neg_ℤ, ◌≤ℤ◌, ◌<ℤ◌, IsErrAnd, Ok, Err, Result, sym, refl, ap, ◌∙◌, subst, inl, inr, arith, length-set, w32, w64, SFits, to_z, of_z}
 use mathlib.Core.Path.{fun_ext}
 use lib.Signed.{lt_z}
-use Rattle.std.specs.Int.{int_max}
-use Rattle.std.proofs.lemmas.Int.{ints, clamps, to_z-of_z}
+use Rattle.std.proofs.lemmas.Int.{ints, to_z-of_z}
 use Rattle.equations.specs.Ranges.{Near}
 use Rattle.borders.specs.declared.Sheet.{Sheet}
 use Rattle.borders.specs.declared.BorderFault.{BorderFault}
 use Rattle.borders.specs.declared.BorderFault.TheVariants.{Take}
 use Rattle.borders.specs.Day.{Schedule, Period, place, figure_in, moved}
 use Rattle.borders.specs.Limits.{Limited}
-use Rattle.borders.specs.Border.{Meaning, Rule, Stated, Admitted, CanTake, margin_met, overrun, took, forward_of, backward_of, passing}
+use Rattle.borders.specs.Border.{Meaning, Rule, Stated, Admitted, CanTake, margin_met, forward_of, backward_of, passing}
 use Rattle.borders.specs.Answers.{TakeAnswer, Reassessed, same_period, with_limit, with_limits}
-use Rattle.borders.specs.Laws.{Known}
 use Rattle.borders.specs.Days.{day_true, day_or_not, figure_day, figure_out, same_or_not, changed_here, changed_other, moved_long}
 use Rattle.borders.proofs.Takes.{told_day}
-use Rattle.borders.specs.Eased.{can_period, can_room}
 use Rattle.borders.specs.Ramps.{Near30}
-use Rattle.kinds.specs.declared.sheeted.Sheeted.{Sheeted}
 use Rattle.kinds.specs.Sheets.{stated_by, sheeted, idle}
-use Rattle.kinds.specs.SheetedLaws.{Kept, kept_of, limited, day_of, room}
+use Rattle.kinds.specs.SheetedLaws.{Kept, limited, day_of, room}
 
 pub in_own_day : (s : Schedule) (p : ℤ) → length s ≡ 24 → Period 24 p → Period (length s) p
 in_own_day s p long day = subst (λ (n : ℕ). Period n p) (sym long) day

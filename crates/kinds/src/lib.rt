@@ -1,4 +1,6 @@
 //! The four kinds of border, as one make over a small trait.
+#![tactic(auto)]
+
 pub mod kind;
 pub mod makes;
 pub mod sheeted;

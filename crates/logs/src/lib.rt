@@ -1,4 +1,6 @@
 //! A log: plain records in memory that the caller lends, in order of entry.
+#![tactic(auto)]
+
 ghost use Rattle.std.specs.Prelude.{◌≡◌, ◌≤◌, [], length};
 ghost use Rattle.logs.specs.Entries.{entries, capacity_of, record_at, Entered, Changed};
 

@@ -1,4 +1,6 @@
 //! Reads a file of deviations from standard input, and writes the line that answers it.
+#![tactic(auto)]
+
 use margin_file::{answer, most_bytes};
 use std::io::{Read, Write};
 

@@ -1,4 +1,6 @@
 //! The margin of a file of deviations, one a line, or the refusal of the file.
+#![tactic(auto)]
+
 mod enough;
 mod fault;
 mod line;

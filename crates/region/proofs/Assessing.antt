@@ -1,5 +1,5 @@
 -- The grounds of a sheet, judged one after another.
-use Rattle.std.proofs.Common.{◌≡◌, ℕ, ◌<◌, ◌≤◌, true, false, ◌⊎◌, List, [], ◌∷◌, ℤ, pos, nat_abs, IsErrAnd, Some, None, Ok, Err, Result, sym, refl, ap, ◌∙◌, subst, inl, inr, arith}
+use Rattle.std.proofs.Common.{◌≡◌, ℕ, ◌<◌, ◌≤◌, true, false, List, [], ◌∷◌, ℤ, nat_abs, Some, None, refl, ap, ◌∙◌, subst, inl, inr, arith}
 use Rattle.std.proofs.lemmas.Bool.{both_ways}
 use Rattle.borders.specs.Border.{Meaning, passing, flow_of}
 use Rattle.borders.specs.Answers.{Reassessed}
@@ -10,15 +10,13 @@ use Rattle.borders.specs.declared.BorderFault.TheVariants.{Reassess}
 use Rattle.borders.specs.declared.bank.BankFault.{BankFault}
 use Rattle.logs.specs.Entries.{capacity_of}
 use Rattle.book.specs.declared.state.State.{State}
-use Rattle.book.specs.declared.fault.RegionFault.{RegionFault}
 use Rattle.book.specs.declared.fault.RegionFault.TheVariants as fault
-use Rattle.book.specs.declared.Call.{Call}
 use Rattle.book.specs.declared.Call.TheVariants as call
 use Rattle.book.specs.States.{state_after}
 use Rattle.book.specs.Faults.{of_border}
 use Rattle.book.specs.declared.AcceptedSheet.{AcceptedSheet}
 use Rattle.book.specs.Views.{View, Logged, log_of, Period, Border, border_of, with_borders, with_sheets}
-use Rattle.book.specs.Grounds.{Clear, FirstHolds, AllClear, no_period, no_border, refused_by, fails_test, wrong_state, FlowsEarly, early_power_flow, full_log}
+use Rattle.book.specs.Grounds.{Clear, FirstHolds, AllClear, no_period, no_border, refused_by, fails_test, wrong_state, FlowsEarly, early_power_flow}
 use Rattle.book.specs.Calls.{grounds, joined, Assessed}
 use Rattle.book.proofs.Orders.{clear, border_clear, state_clear}
 

@@ -1,5 +1,5 @@
 -- How a region begins.
-use Rattle.std.proofs.Common.{◌≡◌, ℕ, ◌+◌, ◌<◌, ◌≤◌, min, List, length, replicate, sym, refl, ap, ◌∙◌, arith}
+use Rattle.std.proofs.Common.{◌≡◌, ℕ, ◌+◌, ◌<◌, ◌≤◌, min, List, length, replicate, ap, ◌∙◌, arith}
 use mathlib.Core.Path.{fun_ext}
 use Rattle.borders.specs.Border.{Meaning}
 use Rattle.borders.specs.Bank.{border_at}

@@ -1,9 +1,9 @@
 -- A record of the zone table changed in place: all others stay.
-use Rattle.std.proofs.Common.{◌≡◌, ℕ, ◌+◌, ◌-◌, ◌*◌, ◌<◌, ◌≤◌, List, length, get_or, set, ℤ, pos, negsuc, nat_abs, sym, refl, ap, ◌∙◌, arith}
+use Rattle.std.proofs.Common.{◌≡◌, ℕ, ◌<◌, ◌≤◌, List, length, get_or, set, ℤ, pos, negsuc, nat_abs, sym, refl, ap, ◌∙◌, arith}
 use Rattle.std.proofs.lemmas.Int.{ints}
 use Rattle.std.proofs.lemmas.List.{length-set, get_or-set_same, get_or-set_other}
 use Rattle.book.specs.declared.ZoneRecord.{ZoneRecord}
-use Rattle.book.specs.Views.{View, Period, slot, blank, record_of, with_records}
+use Rattle.book.specs.Views.{View, Period, slot, blank, with_records}
 use Rattle.book.specs.Calls.{OnlyRecord}
 
 -- a period by its number

@@ -1,4 +1,6 @@
 //! A region for one delivery day: its tree of zones, its borders, what it keeps of its zones, and the calls on it.
+#![tactic(auto)]
+
 pub mod region;
 pub mod table;
 

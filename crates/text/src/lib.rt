@@ -1,4 +1,6 @@
 //! What the file formats share: the lines of a file, and numbers in their one written form.
+#![tactic(auto)]
+
 mod cut;
 mod read;
 

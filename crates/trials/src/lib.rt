@@ -1,4 +1,6 @@
 //! Trials of the crates at the edges of their ranges, as tables. Expected numbers are worked out by hand from the rules.
+#![tactic(auto)]
+
 #[cfg(test)]
 mod deviation_files;
 #[cfg(test)]

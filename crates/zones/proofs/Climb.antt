@@ -1,7 +1,7 @@
 -- The climb that finds a way: the higher of two zones moves to its parent until they meet.
-use Rattle.std.proofs.Common.{◌≡◌, ℕ, ◌+◌, ◌-◌, ◌<◌, ◌≤◌, List, [], ◌∷◌, ◌++◌, map, reverse, length, take, drop, set, replicate, sym, refl, ap, ◌∙◌, subst, arith}
+use Rattle.std.proofs.Common.{◌≡◌, ℕ, ◌+◌, ◌-◌, ◌<◌, ◌≤◌, List, [], ◌∷◌, ◌++◌, map, reverse, length, take, drop, set, sym, refl, ap, ◌∙◌, arith}
 use mathlib.Core.List.{reverse-cons}
-use Rattle.std.proofs.lemmas.List.{append-nil, append_assoc, length-set, length-replicate, take_more_set, take-set-le, drop-set, drop-set-lt, drop_all}
+use Rattle.std.proofs.lemmas.List.{append-nil, append_assoc, length-set, take_more_set, take-set-le, drop-set, drop-set-lt, drop_all}
 use Rattle.equations.specs.declared.capacity.Direction.TheVariants.{Forward, Backward}
 use Rattle.zones.specs.Ways.{Ordered, side, way_along}
 use Rattle.zones.specs.Trees.{crossing}

@@ -1,14 +1,13 @@
 -- The two sides of a way: how a climb walks them, and that each border is crossed once.
-use Rattle.std.proofs.Common.{◌≡◌, ℕ, zero, suc, ◌+◌, ◌<◌, ◌≤◌, Bool, true, false, cond, not, ◌||◌, eqb, List, [], ◌∷◌, ◌++◌, map, reverse, filter, sym, refl, ap, ◌∙◌, subst, ⊎_elim, arith}
+use Rattle.std.proofs.Common.{◌≡◌, ℕ, zero, suc, ◌+◌, ◌<◌, ◌≤◌, Bool, true, false, cond, not, eqb, List, [], ◌∷◌, ◌++◌, map, reverse, filter, sym, refl, ap, ◌∙◌, subst, ⊎_elim, arith}
 use mathlib.Core.List.{reverse-cons}
 use Rattle.std.specs.List.{AllByRecursion as All}
 use Rattle.std.proofs.ByRecursion.{All-weaker, All-push, kept_by_passes, all_kept_by}
 use Rattle.std.proofs.lemmas.List.{map-append, append_assoc}
 use Rattle.std.proofs.lemmas.Bool.{cases_eq, cases_lt, eq-eqb, ne_eqb, cases_Bool, cond-true, cond-false, not-true, or_right}
-use Rattle.equations.specs.declared.capacity.Direction.{Direction}
 use Rattle.equations.specs.declared.capacity.Direction.TheVariants.{Forward, Backward}
 use Rattle.zones.specs.declared.way.Step.{Step}
-use Rattle.zones.specs.Ways.{Ordered, chain, meets, behind, just_one, on_way, side, crossed, towards, way_along, crossings, EachOnce, ends, Leads}
+use Rattle.zones.specs.Ways.{Ordered, chain, behind, just_one, side, crossed, towards, way_along, crossings, EachOnce, ends, Leads}
 use Rattle.zones.specs.Trees.{crossing}
 use Rattle.zones.proofs.Behind.{by_parents, chain_of_0, chain_goes_on, chain_falls, behind_of_0, behind_by_parent, not_behind, parent_not_behind, behind_itself, behind_as_parent}
 

@@ -1,5 +1,5 @@
 -- The tree of zones as it is made, asked and refused.
-use Rattle.std.specs.Prelude.{◌≡◌, ℕ, ◌+◌, ◌-◌, ◌<◌, ◌≤◌, Bool, cond, not, ◌&&◌, List, [], ◌∷◌, ◌++◌, map, length, take, drop, ℤ, pos, Some, None, Option, Result, MatchResult, nat_lt, slice_index, slice_index_or}
+use Rattle.std.specs.Prelude.{◌≡◌, ℕ, ◌+◌, ◌-◌, ◌<◌, ◌≤◌, Bool, cond, ◌&&◌, List, [], ◌∷◌, ◌++◌, map, length, take, drop, ℤ, pos, Some, None, Option, Result, MatchResult, nat_lt, slice_index, slice_index_or}
 use Rattle.equations.specs.Grounds.{tells}
 use Rattle.equations.specs.declared.fault.Told.{Told}
 use Rattle.equations.specs.declared.capacity.Direction.{Direction}

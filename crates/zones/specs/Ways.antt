@@ -1,5 +1,5 @@
 -- What lies behind a border, the way between two zones, and the net positions that flows leave; `up` tells each zone's parent.
-use Rattle.std.specs.Prelude.{◌≡◌, ℕ, zero, suc, ◌+◌, ◌<◌, ◌≤◌, Bool, true, false, cond, not, ◌&&◌, ◌||◌, List, [], ◌∷◌, ◌++◌, map, reverse, ℤ, pos, ◌-ℤ◌, neg_ℤ, filter, ◌==◌}
+use Rattle.std.specs.Prelude.{◌≡◌, ℕ, zero, suc, ◌+◌, ◌<◌, ◌≤◌, Bool, true, false, cond, not, ◌&&◌, ◌||◌, List, [], ◌∷◌, ◌++◌, map, reverse, ℤ, ◌-ℤ◌, neg_ℤ, filter, ◌==◌}
 use Rattle.equations.specs.declared.capacity.Direction.TheVariants.{Forward, Backward}
 use Rattle.zones.specs.declared.way.Step.{Step}
 use Rattle.zones.specs.Sums.{part, total}

@@ -1,4 +1,4 @@
-use Rattle.std.proofs.Common.{◌≡◌, ℤ, pos, neg_ℤ, refl, ap, ◌∙◌}
+use Rattle.std.proofs.Common.{◌≡◌, pos, refl, ap, ◌∙◌}
 use Rattle.borders.specs.Border.{Meaning, took, ramped}
 use Rattle.kinds.specs.Sheets.{sheeted}
 use Rattle.figures.specs.Worked.{given_kind, new, resheeted, ramped_border, wide_sheet_lem}

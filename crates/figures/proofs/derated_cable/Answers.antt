@@ -1,7 +1,7 @@
-use Rattle.std.proofs.Common.{◌≡◌, ℤ, pos, neg_ℤ, refl, ap, ◌∙◌}
+use Rattle.std.proofs.Common.{◌≡◌, pos, neg_ℤ, refl, ap, ◌∙◌}
 use Rattle.borders.specs.Border.{Meaning, took}
 use Rattle.kinds.specs.Sheets.{sheeted}
-use Rattle.figures.specs.Worked.{cable_kind, new, derated_cable_lem, cable_sheet_lem}
+use Rattle.figures.specs.Worked.{cable_kind, new, derated_cable_lem}
 use Rattle.figures.proofs.Bordered.{sheeted_again, full_cable, cable_takes, derated_forward, derated_backward}
 use Rattle.figures.proofs.derated_cable.Goals as goal
 

@@ -1,4 +1,4 @@
-use Rattle.std.proofs.Common.{◌≡◌, refl, ◌∙◌}
+use Rattle.std.proofs.Common.{refl}
 use Rattle.figures.proofs.Margined.{figures_follow}
 use Rattle.figures.proofs.worked.Goals as goal
 

@@ -1,6 +1,6 @@
-use Rattle.std.proofs.Common.{◌≡◌, ℤ, ◌+ℤ◌, ◌-ℤ◌, sym, ◌∙◌, subst, arith, w32, w64, SFits, rules}
+use Rattle.std.proofs.Common.{◌≡◌, ◌+ℤ◌, ◌-ℤ◌, sym, subst, w32, w64, SFits, rules}
 use Rattle.std.specs.Int.{int_min}
-use Rattle.std.proofs.lemmas.Int.{ints, to_z-of_z}
+use Rattle.std.proofs.lemmas.Int.{to_z-of_z}
 use Rattle.equations.specs.Capacities.{settled_capacity, circuit_cap}
 use Rattle.equations.proofs.Available.{cable_small, settlement_small, line_small, sums_fit, given_small}
 use Rattle.equations.proofs.capacity.form.Goals as goal

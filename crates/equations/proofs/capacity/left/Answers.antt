@@ -1,5 +1,5 @@
-use Rattle.std.proofs.Common.{◌≡◌, ℤ, ◌-ℤ◌, sym, ap, ◌∙◌, arith, w32, w64, SFits, rules}
-use Rattle.std.proofs.lemmas.Int.{ints, to_z-of_z}
+use Rattle.std.proofs.Common.{◌≡◌, ◌-ℤ◌, sym, ◌∙◌, w32, w64, SFits, rules}
+use Rattle.std.proofs.lemmas.Int.{to_z-of_z}
 use Rattle.equations.specs.Capacities.{net_capacity, counted, line_available}
 use Rattle.equations.proofs.Available.{plain_available, less_near}
 use Rattle.equations.proofs.capacity.left.Goals as goal

@@ -1,6 +1,5 @@
-use Rattle.std.proofs.Common.{◌≡◌, ◌*◌, ℤ, pos, ◌-ℤ◌, ◌*ℤ◌, sym, refl, subst, arith, lit<, w64, SFits, to_z, of_z, rules}
+use Rattle.std.proofs.Common.{◌≡◌, ◌*◌, ℤ, pos, ◌-ℤ◌, ◌*ℤ◌, arith, lit<, w64, SFits}
 use Rattle.std.proofs.lemmas.Int.{ints, to_z-of_z}
-use Rattle.equations.specs.Margins.{excess}
 use Rattle.equations.specs.Ranges.{Near}
 use Rattle.equations.proofs.Products.{near_product, near_fits}
 use Rattle.equations.proofs.deviations.excess_at.Goals as goal

@@ -1,14 +1,13 @@
-use Rattle.std.proofs.Common.{◌≡◌, ℕ, ◌+◌, ◌*◌, ◌<◌, ◌≤◌, Bool, true, false, ◌&&◌, List, length, get_or, take, drop, ℤ, pos, negsuc, ◌+ℤ◌, ◌*ℤ◌, neg_ℤ, ◌≤ℤ◌, sym, refl, ap, ◌∙◌, subst, arith, w32, w64, SFits, to_z, rules}
-use lib.Signed.{le_z, lt_z}
+use Rattle.std.proofs.Common.{◌≡◌, ℕ, ◌+◌, ◌<◌, ◌≤◌, true, false, List, length, get_or, take, ℤ, pos, negsuc, ◌+ℤ◌, ◌*ℤ◌, neg_ℤ, ◌≤ℤ◌, sym, ap, ◌∙◌, subst, arith, w32, w64, SFits, to_z, rules}
+use lib.Signed.{lt_z}
 use Rattle.std.proofs.lemmas.List.{take_all}
 use Rattle.std.proofs.lemmas.Int.{ints, to_z-of_z, to_z_pos}
 use Rattle.std.proofs.lemmas.List.Sums.{prefix_len-drop_yes, prefix_len-drop_no, prefix_len-drop_all}
 use Rattle.std.proofs.lemmas.Bool.Decides.{nat_tests}
 use Rattle.std.specs.List.{prefix_len}
 use Rattle.equations.specs.Margins.{AllowedSums, MarginOf, sum_of, squares_of, deviation_allowed, count_allowed}
-use Rattle.equations.proofs.Judging.{judged_overall, judged_entry, judged_answer}
-use Rattle.equations.specs.Ranges.{Near}
-use Rattle.equations.proofs.Products.{near_product, near_fits}
+use Rattle.equations.proofs.Judging.{judged_entry, judged_answer}
+use Rattle.equations.proofs.Products.{near_product}
 use Rattle.equations.proofs.Reaching.{square_least}
 use Rattle.equations.proofs.Totals.{total_none, total_more, square_covered}
 use Rattle.equations.proofs.deviations.margin.Goals as goal

@@ -1,8 +1,8 @@
-use Rattle.std.proofs.Common.{◌≡◌, ℤ, pos, negsuc, ◌+ℤ◌, ◌-ℤ◌, ◌≤ℤ◌, sym, ap, ◌∙◌, subst, arith, w32, w64, SFits, rules}
+use Rattle.std.proofs.Common.{◌≡◌, ℤ, pos, negsuc, ◌+ℤ◌, ◌-ℤ◌, ◌≤ℤ◌, arith, w32, w64, SFits}
 use lib.Signed.{quot_z}
 use Rattle.std.proofs.lemmas.Int.{ints, to_z-of_z}
 use Rattle.equations.specs.Ranges.{Near}
-use Rattle.equations.specs.Margins.{AllowedSums, Greatest, Reached, square_bound_lem, spread}
+use Rattle.equations.specs.Margins.{square_bound_lem, spread}
 use Rattle.equations.proofs.Reaching.{top_missed}
 use Rattle.equations.proofs.deviations.margin_of_sums.Goals as goal
 

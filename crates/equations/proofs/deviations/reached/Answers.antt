@@ -1,4 +1,4 @@
-use Rattle.std.proofs.Common.{◌≡◌, ◌*◌, false, ◌⊎◌, ℤ, pos, ◌*ℤ◌, ◌≤ℤ◌, MatchBool, sym, subst, inl, inr, ⊎_elim, arith, lit<, w64, SFits, rules}
+use Rattle.std.proofs.Common.{◌≡◌, ◌*◌, false, ℤ, pos, ◌*ℤ◌, ◌≤ℤ◌, MatchBool, sym, subst, inr, ⊎_elim, arith, lit<, w64, SFits}
 use lib.Signed.{le_z}
 use Rattle.std.proofs.lemmas.Int.{ints, to_z-of_z}
 use Rattle.equations.specs.Margins.{excess, Reached}

@@ -1,7 +1,6 @@
-use Rattle.std.proofs.Common.{ℤ, pos, ◌-ℤ◌, ◌*ℤ◌, ◌≤ℤ◌, refl, arith, w64, SFits, rules}
-use Rattle.std.proofs.lemmas.Int.{ints, to_z-of_z}
-use Rattle.equations.specs.Margins.{AllowedSums, spread}
-use Rattle.equations.proofs.Reaching.{Fitting, fitting}
+use Rattle.std.proofs.Common.{refl}
+use Rattle.std.proofs.lemmas.Int.{to_z-of_z}
+use Rattle.equations.proofs.Reaching.{fitting}
 use Rattle.equations.proofs.deviations.spread_of.Goals as goal
 
 pub overflow_mul-product : goal.overflow_mul-product

@@ -1,4 +1,4 @@
-use Rattle.std.proofs.Common.{ℤ, pos, ◌+ℤ◌, ◌≤ℤ◌, refl, arith, w64, SFits, rules}
+use Rattle.std.proofs.Common.{◌+ℤ◌, refl, arith, w64, SFits}
 use lib.Signed.{quot_z}
 use Rattle.std.proofs.lemmas.Int.{ints, to_z-of_z}
 use Rattle.equations.proofs.Reaching.{quotient_between}

@@ -1,5 +1,5 @@
-use Rattle.std.proofs.Common.{◌≡◌, ℕ, ◌≤◌, true, ◌&&◌, leb, List, length, ℤ, pos, ◌≤ℤ◌, sym, refl, ap, ◌∙◌, subst, arith, w32, SFits, rules}
-use lib.Signed.{le_z, quot_z}
+use Rattle.std.proofs.Common.{◌≡◌, ℕ, ◌≤◌, true, ◌&&◌, leb, List, length, ℤ, pos, ◌≤ℤ◌, refl, ap, ◌∙◌, arith, w32, SFits, rules}
+use lib.Signed.{quot_z}
 use Rattle.std.proofs.lemmas.Int.{ints, to_z-of_z}
 use Rattle.std.proofs.lemmas.Bool.Decides.{nat_tests}
 use Rattle.equations.specs.declared.sources.Source.{Source}

@@ -1,4 +1,4 @@
-use Rattle.std.proofs.Common.{inl, inr, arith, rules}
+use Rattle.std.proofs.Common.{inl, inr, arith}
 use Rattle.logs.proofs.Kept.{no_record, record_read}
 use Rattle.logs.proofs.Log.read.Goals as goal
 use Rattle.logs.proofs.Log.read.Goals.{then-number-lt1-via-then-number-lt1, then-number-lt1-via-else-number-lt1+then-number-self}

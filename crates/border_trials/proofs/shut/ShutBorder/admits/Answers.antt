@@ -1,4 +1,4 @@
-use Rattle.std.proofs.Common.{get_or, ℤ, pos, sym, subst, w32, SFits, rules}
+use Rattle.std.proofs.Common.{get_or, pos, sym, subst, w32, SFits, rules}
 use Rattle.borders.specs.Border.{Admitted}
 use Rattle.border_trials.specs.Shut.{closed}
 use Rattle.border_trials.specs.Closed.{only_zero, zero_admitted, admitted_zero, bits_zero, zero_bits}

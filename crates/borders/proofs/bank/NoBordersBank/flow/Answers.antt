@@ -1,5 +1,4 @@
-use Rattle.std.proofs.Common.{sym, arith}
-use Rattle.std.proofs.lemmas.Int.{ints}
+use Rattle.std.proofs.Common.{sym}
 use Rattle.borders.proofs.Banked.{no_figure}
 use Rattle.borders.proofs.bank.NoBordersBank.flow.Goals as goal
 

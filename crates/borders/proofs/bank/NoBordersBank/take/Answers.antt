@@ -1,4 +1,3 @@
-use Rattle.std.proofs.Common.{w32}
 use Rattle.std.proofs.lemmas.Int.{to_z-of_z}
 use Rattle.borders.proofs.bank.NoBordersBank.take.Goals as goal
 

@@ -1,5 +1,5 @@
-use Rattle.std.proofs.Common.{◌≡◌, length, ℤ, pos, ◌+ℤ◌, ◌-ℤ◌, sym, ap, ◌∙◌, subst, w32, SFits}
-use Rattle.std.specs.Int.{int_min, int_max}
+use Rattle.std.proofs.Common.{◌≡◌, length, ℤ, ◌-ℤ◌, sym, ap, ◌∙◌, subst, w32, SFits}
+use Rattle.std.specs.Int.{int_max}
 use Rattle.std.proofs.lemmas.Int.{to_z-of_z}
 use Rattle.borders.specs.Day.{Schedule, figure_in}
 use Rattle.borders.specs.Ramps.{lifted_day, lifted_out, raised_fits, rate_fits, early, late, inside}

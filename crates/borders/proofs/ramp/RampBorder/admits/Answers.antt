@@ -1,9 +1,9 @@
-use Rattle.std.proofs.Common.{◌≡◌, ℕ, ◌-◌, ◌<◌, ◌≤◌, true, false, length, get_or, ℤ, pos, ◌+ℤ◌, ◌-ℤ◌, ◌≤ℤ◌, sym, refl, ◌∙◌, arith, w32, SFits, below_more}
+use Rattle.std.proofs.Common.{◌≡◌, ℕ, ◌-◌, ◌<◌, ◌≤◌, true, false, length, get_or, ℤ, pos, ◌+ℤ◌, ◌-ℤ◌, ◌≤ℤ◌, refl, arith, w32, SFits, below_more}
 use mathlib.Core.Bool.{false≢true}
 use lib.Signed.{lt_z}
 use Rattle.std.proofs.lemmas.Int.{ints, to_z-of_z}
 use Rattle.borders.specs.Day.{Schedule}
-use Rattle.borders.specs.Border.{Meaning, Admitted, ramped}
+use Rattle.borders.specs.Border.{Meaning, Admitted}
 use Rattle.borders.specs.Ramps.{Near30, Step, admitted_over, admitted_below, admitted_step, by_place, lt_before, near30_fits, rate_fits}
 use Rattle.borders.proofs.ramp.RampBorder.admits.Goals as goal
 use Rattle.borders.proofs.ramp.RampBorder.admits.Goals.{then-step-self-via-then-step-self, then-step-self-via-else-step-self+then-step-self-2}

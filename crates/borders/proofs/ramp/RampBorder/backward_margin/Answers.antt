@@ -2,7 +2,7 @@ use Rattle.std.proofs.Common.{◌≡◌, ℤ, pos, ◌+ℤ◌, ◌-ℤ◌, sym, 
 use Rattle.std.proofs.lemmas.Int.{to_z-of_z}
 use Rattle.borders.specs.Day.{Schedule, figure_in}
 use Rattle.borders.specs.Limits.{Limited, lifted_by, ramped_upper, ramped_lower}
-use Rattle.borders.specs.Border.{Meaning, days_length, flow_of, top, bottom, ramped}
+use Rattle.borders.specs.Border.{Meaning, days_length, flow_of, top, bottom}
 use Rattle.borders.proofs.Takes.{told_day}
 use Rattle.borders.specs.Ramps.{Near30, inside, limit_sum, neighbours, ramped_limited, margin_fits}
 use Rattle.borders.proofs.ramp.RampBorder.backward_margin.Goals as goal

@@ -1,4 +1,3 @@
-use Rattle.std.proofs.Common.{w32}
 use Rattle.std.proofs.lemmas.Int.{to_z-of_z}
 use Rattle.borders.specs.Ramps.{reassess_below}
 use Rattle.borders.proofs.ramp.RampBorder.reassess.Goals as goal

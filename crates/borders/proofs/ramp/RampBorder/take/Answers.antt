@@ -1,4 +1,3 @@
-use Rattle.std.proofs.Common.{refl, w32}
 use Rattle.std.proofs.lemmas.Int.{to_z-of_z}
 use Rattle.borders.specs.Border.{Meaning}
 use Rattle.borders.specs.Ramps.{take_below}

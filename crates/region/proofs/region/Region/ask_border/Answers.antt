@@ -1,10 +1,9 @@
-use Rattle.std.proofs.Common.{[], ◌∷◌, rules}
+use Rattle.std.proofs.Common.{[], ◌∷◌}
 use Rattle.std.proofs.lemmas.Int.{to_z-of_z}
 use Rattle.zones.specs.Trees.{zones}
-use Rattle.book.specs.Grounds.{no_period, no_zone, no_border, bad_amount, wrong_state}
-use Rattle.book.specs.Limits.{LimitAllowed, PositionAllowed}
+use Rattle.book.specs.Grounds.{no_period, no_border}
 use Rattle.book.proofs.Orders.{refused, refused_early}
-use Rattle.region.specs.Seen.{seen, limit_call, position_call, ask_border_lem, ask_zone_lem}
+use Rattle.region.specs.Seen.{seen, ask_border_lem}
 use Rattle.region.proofs.region.Region.ask_border.Goals as goal
 
 pub returns-in_err-at : goal.returns-in_err-at

@@ -1,11 +1,10 @@
-use Rattle.std.proofs.Common.{◌≡◌, [], ◌∷◌, refl, ap, ◌∙◌, w64, SFits, rules}
+use Rattle.std.proofs.Common.{[], ◌∷◌, refl, w64, SFits}
 use Rattle.std.proofs.lemmas.Int.{to_z-of_z}
 use Rattle.zones.specs.Trees.{zones}
-use Rattle.book.specs.Grounds.{no_period, no_zone, no_border, bad_amount, wrong_state}
-use Rattle.book.specs.Limits.{LimitAllowed, PositionAllowed}
+use Rattle.book.specs.Grounds.{no_period, no_zone}
 use Rattle.book.proofs.Orders.{refused, refused_early, zone_clear}
 use Rattle.region.proofs.Nets.{zone_told_is}
-use Rattle.region.specs.Seen.{seen, limit_call, position_call, ask_border_lem, ask_zone_lem}
+use Rattle.region.specs.Seen.{seen, ask_zone_lem}
 use Rattle.region.proofs.region.Region.ask_zone.Goals as goal
 
 pub returns-in_err-at : goal.returns-in_err-at

@@ -6,7 +6,6 @@ use Rattle.book.specs.declared.Call.{Call}
 use Rattle.book.specs.Views.{View}
 use Rattle.book.specs.declared.Call.TheVariants.{Offer, Gate, End}
 use Rattle.book.specs.Calls.{CallDid, OnlyStateJudged}
-use Rattle.region.specs.Seen.{seen}
 use Rattle.region.proofs.region.Region.call.Goals as goal
 
 -- what is known of the call as it was taken apart holds of the call

@@ -1,4 +1,3 @@
-use Rattle.std.proofs.Common.{ℤ}
 use Rattle.borders.specs.Border.{flow_of}
 use Rattle.borders.specs.Bank.{border_at}
 use Rattle.region.proofs.Nets.{Collected}

@@ -1,4 +1,4 @@
-use Rattle.std.proofs.Common.{◌≡◌, ◌∙◌, arith, rules}
+use Rattle.std.proofs.Common.{◌∙◌}
 use Rattle.zones.specs.Trees.{up}
 use Rattle.region.specs.Seen.{logged}
 use Rattle.region.proofs.Begins.{fits, begins}

@@ -1,12 +1,12 @@
-use Rattle.std.proofs.Common.{◌≡◌, [], ◌∷◌, refl, ap, inl, inr, arith, w32, rules}
+use Rattle.std.proofs.Common.{[], ◌∷◌, refl, arith}
 use Rattle.std.proofs.lemmas.Int.{to_z-of_z}
 use Rattle.zones.specs.Trees.{zones}
-use Rattle.book.specs.Grounds.{no_period, no_zone, no_border, bad_amount, wrong_state}
-use Rattle.book.specs.Limits.{LimitAllowed, PositionAllowed}
+use Rattle.book.specs.Grounds.{no_period, no_zone, bad_amount, wrong_state}
+use Rattle.book.specs.Limits.{PositionAllowed}
 use Rattle.book.proofs.Orders.{refused, refused_early, zone_clear, amount_clear, state_clear}
 use Rattle.region.proofs.Kept.{only_record}
 use Rattle.region.proofs.Nets.{position_fits}
-use Rattle.region.specs.Seen.{seen, limit_call, position_call, ask_border_lem, ask_zone_lem}
+use Rattle.region.specs.Seen.{seen, position_call}
 use Rattle.region.proofs.region.Region.position.Goals as goal
 
 pub returns-in_err-at : goal.returns-in_err-at

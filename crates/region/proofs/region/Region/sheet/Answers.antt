@@ -1,7 +1,6 @@
-use Rattle.std.proofs.Common.{◌≡◌, true, [], ◌∷◌, pos, sym, refl, ap, ◌∙◌, subst, arith, w32, SFits, rules}
+use Rattle.std.proofs.Common.{◌≡◌, true, [], ◌∷◌, sym, refl, ap, ◌∙◌, subst, w32, SFits, rules}
 use Rattle.std.proofs.lemmas.Int.{to_z-of_z}
 use Rattle.std.proofs.lemmas.Bool.{false≢true}
-use Rattle.book.specs.declared.fault.RegionFault.TheVariants.{PowerFlow, Full, State}
 use Rattle.borders.specs.Border.{passing}
 use Rattle.borders.specs.Bank.{border_at}
 use Rattle.book.specs.Faults.{of_border}

@@ -1,9 +1,9 @@
-use Rattle.std.proofs.Common.{◌≡◌, true, false, sym, refl, ap, ◌∙◌, arith, w16, w32, SFits, rules}
+use Rattle.std.proofs.Common.{◌≡◌, sym, ap, ◌∙◌, arith, w16, SFits, rules}
 use Rattle.std.proofs.lemmas.Int.{ints, to_z-of_z}
 use Rattle.zones.specs.Trees.{up, lies_behind_lem}
 use Rattle.zones.specs.Ways.{behind}
 use Rattle.book.specs.declared.ZoneRecord.{ZoneRecord}
-use Rattle.region.proofs.Staging.{Added, none_behind, more_behind, none_more, behind_told}
+use Rattle.region.proofs.Staging.{none_behind, more_behind, none_more, behind_told}
 use Rattle.region.proofs.region.Region.staged_behind.Goals as goal
 use Rattle.region.proofs.region.Region.staged_behind.Goals.{then-lies_behind, else-lies_behind}
 

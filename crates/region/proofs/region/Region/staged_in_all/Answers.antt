@@ -1,7 +1,7 @@
-use Rattle.std.proofs.Common.{◌≡◌, sym, refl, ap, ◌∙◌, arith, w16, w32, SFits, rules}
+use Rattle.std.proofs.Common.{◌≡◌, ap, ◌∙◌, arith, w16, SFits, rules}
 use Rattle.std.proofs.lemmas.Int.{ints, to_z-of_z}
 use Rattle.book.specs.declared.ZoneRecord.{ZoneRecord}
-use Rattle.region.proofs.Staging.{Added, none_in_all, more_in_all}
+use Rattle.region.proofs.Staging.{none_in_all, more_in_all}
 use Rattle.region.proofs.region.Region.staged_in_all.Goals as goal
 
 pub loop-zone-init : goal.loop-zone-init

@@ -1,7 +1,7 @@
-use Rattle.std.proofs.Common.{◌≡◌, ℕ, true, ◌⊎◌, sym, refl, ap, ◌∙◌, subst, arith, w64, SFits, rules}
-use Rattle.std.proofs.lemmas.Int.{ints, to_z-of_z}
-use Rattle.zones.specs.Trees.{up, zones, is_zone}
-use Rattle.zones.proofs.Leads.{Summed, none_summed, led_summed, other_summed, net_above_0, net_of_0}
+use Rattle.std.proofs.Common.{◌≡◌, sym, ◌∙◌, arith, rules}
+use Rattle.std.proofs.lemmas.Int.{ints}
+use Rattle.zones.specs.Trees.{up}
+use Rattle.zones.proofs.Leads.{none_summed, led_summed, other_summed, net_above_0, net_of_0}
 use Rattle.zones.proofs.tree.Tree.net_position.Goals as goal
 use Rattle.zones.proofs.tree.Tree.net_position.Goals.{then-up-zone, else-up-zone}
 

@@ -1,5 +1,5 @@
-use Rattle.std.proofs.Common.{◌≡◌, refl, arith, rules}
-use Rattle.zones.proofs.Table.{Filled, none_filled, filled_more, filled_all, filled_ordered}
+use Rattle.std.proofs.Common.{refl, arith}
+use Rattle.zones.proofs.Table.{none_filled, filled_more, filled_all, filled_ordered}
 use Rattle.zones.proofs.tree.Tree.new.Goals as goal
 
 pub loop-i-init : goal.loop-i-init

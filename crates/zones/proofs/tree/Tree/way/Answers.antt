@@ -1,9 +1,9 @@
-use Rattle.std.proofs.Common.{◌≡◌, true, List, sym, refl, ap, ◌∙◌, subst, arith, rules}
+use Rattle.std.proofs.Common.{◌≡◌, true, List, sym, refl, subst, arith}
 use Rattle.zones.specs.Ways.{EachOnce, Leads}
 use Rattle.zones.specs.declared.way.Step.{Step}
 use Rattle.zones.specs.Trees.{up as parent_of, is_zone}
 use Rattle.zones.proofs.Sides.{crossed_once, way_leads}
-use Rattle.zones.proofs.Climb.{Climbing, climb_starts, seller_climbs, buyer_climbs, climb_ends}
+use Rattle.zones.proofs.Climb.{seller_climbs, buyer_climbs, climb_ends}
 use Rattle.zones.proofs.tree.Tree.way.Goals as goal
 
 pub loop-a-preserved-then-a-b : goal.loop-a-preserved-then-a-b

@@ -1,5 +1,4 @@
 use Rattle.std.proofs.Common.{inl, inr, arith, rules}
-use Rattle.std.proofs.lemmas.Int.{ints}
 use Rattle.zones.proofs.Leads.{flow_past, flow_at}
 use Rattle.zones.proofs.tree.questions.flow_of.Goals as goal
 use Rattle.zones.proofs.tree.questions.flow_of.Goals.{then-border-eq0-via-then-border-eq0, then-border-eq0-via-else-border-eq0+then-border-flows}
