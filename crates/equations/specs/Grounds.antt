@@ -7,7 +7,7 @@ use Rattle.equations.specs.declared.fault.FigureFault.TheVariants.{Overall, Entr
 
 -- a fault with its ground, place and period
 abbrev pub tells : ℕ → ℤ → ℤ → Told
-tells number_is where_found when = record { number = number_is; place = where_found; period = when }
+tells k where_found when = record { number = k; place = where_found; period = when }
 
 -- ground 7 at a place: 0 for a count or the down-regulation, else that of the first entry out of bounds, from 1
 abbrev pub out_of_bounds : ℕ → Told

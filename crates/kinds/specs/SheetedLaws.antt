@@ -1,4 +1,4 @@
--- That a border of our kinds keeps the laws of a border: proofs, which stand here as the language wants a law's proof from specs/.
+-- A border of our kinds keeps the laws of a border.
 use Rattle.std.specs.Prelude.{◌≡◌, ℕ, ◌≤◌, length, ℤ, pos, ◌+ℤ◌, ◌-ℤ◌, neg_ℤ, ◌≤ℤ◌, ◌<ℤ◌, ◌⊎◌, refl}
 use Rattle.std.proofs.Common.{sym, subst, inl, inr, arith}
 use Rattle.std.specs.Int.{int_max}
