@@ -4,7 +4,6 @@ ghost use Rattle.borders.specs.Border.{Meaning, flow_of, forward_of, backward_of
 ghost use Rattle.borders.specs.Answers.{MayTake, MayAdopt, MayReassess, TakeAnswer, AdoptAnswer, ReassessAnswer};
 ghost use Rattle.borders.specs.Laws.{Known, AllKnown};
 ghost use Rattle.borders.specs.Bank.{border_at, OthersStay, own_answer, Named};
-ghost use Rattle.std.proofs.Common.{rules};
 
 use crate::{Border, BorderFault, Sheet};
 
@@ -149,7 +148,7 @@ pub struct Pair<B, R> {
 impl Bank for NoBorders {
     ghost borders = { λ _. [] };
 
-    ghost known = { Prim.search rules };
+    ghost known = { λ _. tt };
 
     fn count(&self) -> usize {
         0

@@ -1,6 +1,6 @@
 //! Why a file of deviations has no margin, and what is told of it.
 ghost use Rattle.std.specs.Prelude.{◌≡◌, Some as Known};
-ghost use Rattle.margin_file.specs.declared.fault.SampleFault.TheVariants.{Refused as Out-of-bounds, Memory as No-memory};
+ghost use Rattle.margin_file.specs.declared.fault.SampleFault.TheVariants.{Refused as OutOfBounds, Memory as NoMemory};
 ghost use Rattle.margin_file.specs.Faults.{fault_told};
 ghost use Rattle.margin_file.specs.Texts.{refusal_text, fault_text};
 
@@ -27,7 +27,7 @@ pub struct Refusal {
 }
 
 impl From<FigureFault> for SampleFault {
-    ghost from_gives = { λ e r. r ≡ Out-of-bounds e };
+    ghost from_gives = { λ e r. r ≡ OutOfBounds e };
 
     fn from(fault: FigureFault) -> SampleFault {
         SampleFault::Refused(fault)
@@ -35,7 +35,7 @@ impl From<FigureFault> for SampleFault {
 }
 
 impl From<AllocError> for SampleFault {
-    ghost from_gives = { λ _ r. r ≡ No-memory };
+    ghost from_gives = { λ _ r. r ≡ NoMemory };
 
     fn from(_fault: AllocError) -> SampleFault {
         SampleFault::Memory
@@ -43,7 +43,7 @@ impl From<AllocError> for SampleFault {
 }
 
 impl<T: Drop> From<AllocFailed<T>> for SampleFault {
-    ghost from_gives = { λ _ r. r ≡ No-memory };
+    ghost from_gives = { λ _ r. r ≡ NoMemory };
 
     fn from(_fault: AllocFailed<T>) -> SampleFault {
         SampleFault::Memory
