@@ -28,7 +28,7 @@ FlowTold true b = HasFlow b
 FlowTold false b = WithoutFlow b
 
 -- when each fault is told: both counts are judged first, then the parents, then the borders, of which the lowest are told
--- (`unmade-told` gives the number, place and period of each)
+-- (`unmade_told` gives the number, place and period of each)
 abbrev pub UnfitAs : List ℕ → List Meaning → MakingFault → Type 0
 UnfitAs given bs Count = CountsFit given bs → ⊥
 UnfitAs given bs (Parent z) = CountsFit given bs × (1 ≤ z) × (z ≤ length given) × (ParentAllowed given z → ⊥) × AllowedBelow given z
