@@ -19,7 +19,7 @@ pub const STATES: [State; 6] = [
     State::Closed,
 ];
 
-pub fn small() -> Result<Small, Fail> {
+pub(crate) fn small() -> Result<Small, Fail> {
     let line = Pair {
         first: Sheeted::<Line>::make(),
         rest: NoBorders,
@@ -35,7 +35,7 @@ pub fn small() -> Result<Small, Fail> {
 }
 
 // A sheet with these figures both ways.
-pub fn sheet(first: i32, second: i32, power_flow: i32) -> Sheet {
+pub(crate) fn sheet(first: i32, second: i32, power_flow: i32) -> Sheet {
     let side = Side {
         first,
         second,
@@ -50,7 +50,7 @@ pub fn sheet(first: i32, second: i32, power_flow: i32) -> Sheet {
     }
 }
 
-pub fn blank_deal() -> Deal {
+pub(crate) fn blank_deal() -> Deal {
     Deal {
         seller: 0,
         buyer: 0,
@@ -60,7 +60,7 @@ pub fn blank_deal() -> Deal {
     }
 }
 
-pub fn blank_sheet() -> AcceptedSheet {
+pub(crate) fn blank_sheet() -> AcceptedSheet {
     AcceptedSheet {
         border: 0,
         period: 0,
@@ -70,7 +70,7 @@ pub fn blank_sheet() -> AcceptedSheet {
 }
 
 // Makes a call, and gives what its refusal tells; three zeros if it is accepted.
-pub fn told(
+pub(crate) fn told(
     region: &mut Small,
     deals: &mut Log<Deal>,
     sheets: &mut Log<AcceptedSheet>,
@@ -86,7 +86,7 @@ pub fn told(
 }
 
 // Brings a new region to a state.
-pub fn bring(
+pub(crate) fn bring(
     rt: &impl Abort,
     region: &mut Small,
     deals: &mut Log<Deal>,
@@ -105,7 +105,7 @@ pub fn bring(
 }
 
 // What a call tells that is made on a new region in a state.
-pub fn in_state(rt: &impl Abort, state: State, call: Call) -> Result<(u8, i32, i32), Fail> {
+pub(crate) fn in_state(rt: &impl Abort, state: State, call: Call) -> Result<(u8, i32, i32), Fail> {
     let mut deal_memory = [blank_deal(); 1];
     let mut sheet_memory = [blank_sheet(); 1];
     let mut deals = Log::new(&mut deal_memory);
@@ -116,7 +116,7 @@ pub fn in_state(rt: &impl Abort, state: State, call: Call) -> Result<(u8, i32, i
 }
 
 // Makes calls that are all accepted.
-pub fn accepted(
+pub(crate) fn accepted(
     rt: &impl Abort,
     region: &mut Small,
     deals: &mut Log<Deal>,
@@ -129,7 +129,7 @@ pub fn accepted(
 }
 
 // Both capacities and the flow of a border in period 5; minus ones for a refusal.
-pub fn of_border(region: &Small, border: i32) -> (i32, i32, i32) {
+pub(crate) fn of_border(region: &Small, border: i32) -> (i32, i32, i32) {
     match region.ask_border(border, 5) {
         Ok(
             Answer::Border {
@@ -143,7 +143,7 @@ pub fn of_border(region: &Small, border: i32) -> (i32, i32, i32) {
 }
 
 // Net position and overrun of a zone in period 5; minus ones for a refusal.
-pub fn of_zone(region: &Small, zone: i32) -> (i64, i64) {
+pub(crate) fn of_zone(region: &Small, zone: i32) -> (i64, i64) {
     match region.ask_zone(zone, 5) {
         Ok(Answer::Zone { net, overrun }) => (net, overrun),
         _ => (-1, -1),
