@@ -47,7 +47,7 @@ impl MakingFault {
 }
 
 /// Why a region refused a call.
-#[derive(Clone, Copy)]
+#[derive(Clone, Copy, PartialEq, Eq, Debug)]
 pub enum RegionFault {
     /// 2: the period, as given, is not one of the day's.
     Period(i32),
@@ -87,8 +87,7 @@ fn ground_of(cause: &BorderFault) -> u8
 {
     match cause {
         BorderFault::Reassess => 6,
-        BorderFault::Take(_) => 24,
-        BorderFault::Adopt => 24,
+        BorderFault::Take(_) | BorderFault::Adopt => 24,
     }
 }
 
@@ -104,7 +103,7 @@ impl RegionFault {
             RegionFault::Amount(period) => (5, 0, *period),
             RegionFault::Border(fault) => (
                 ground_of(&fault.cause),
-                fault.border.min(2_147_483_647) as i32,
+                i32::try_from(fault.border).unwrap_or(i32::MAX),
                 fault.period,
             ),
             RegionFault::State(period) => (20, 0, *period),

@@ -15,10 +15,10 @@ pub use state::State;
 pub const PERIODS: i32 = 24;
 
 /// The same as a count.
-pub const PERIOD_COUNT: usize = 24;
+pub const PERIOD_COUNT: usize = PERIODS as usize;
 
 /// How much a zone may import and export in a period, in MW: its net position lies between −import and export.
-#[derive(Clone, Copy)]
+#[derive(Clone, Copy, PartialEq, Eq, Debug)]
 pub struct ZoneLimit {
     pub import: i32,
     pub export: i32,
@@ -59,7 +59,7 @@ pub struct Deal {
 }
 
 /// An accepted sheet in the sheet log, with the border's flow when it was accepted.
-#[derive(Clone, Copy)]
+#[derive(Clone, Copy, PartialEq, Eq, Debug)]
 pub struct AcceptedSheet {
     pub border: i32,
     pub period: i32,
@@ -110,7 +110,7 @@ pub enum Call {
 }
 
 /// The answer to an accepted call.
-#[derive(Clone, Copy)]
+#[derive(Clone, Copy, PartialEq, Eq, Debug)]
 pub enum Answer {
     Done,
     /// Available capacity forward and backward, and the flow.

@@ -5,7 +5,7 @@ ghost use Rattle.book.specs.States.{state_after, OpenWithResult, open_capacity};
 use crate::Call;
 
 /// The state of a delivery day. It starts in `Drafting`.
-#[derive(Clone, Copy)]
+#[derive(Clone, Copy, PartialEq, Eq, Debug)]
 pub enum State {
     Drafting,
     Offered,
@@ -39,7 +39,7 @@ impl State {
     {
         match (self, call) {
             (State::Offered | State::Closed, Call::Sheet { .. } | Call::Limit { .. }) => None,
-            (state, Call::Sheet { .. } | Call::Limit { .. }) => Some(state),
+            (_, Call::Sheet { .. } | Call::Limit { .. }) => Some(self),
             (State::Offered | State::Waiting, Call::Position { .. }) => Some(self),
             (State::Drafting, Call::Offer) => Some(State::Offered),
             (State::Offered, Call::Adopt) => Some(State::Matched),
@@ -47,7 +47,7 @@ impl State {
             (State::Offered, Call::Gate) => Some(State::Waiting),
             (State::Matched, Call::Gate) => Some(State::Trading),
             (State::Waiting | State::Trading, Call::End) => Some(State::Closed),
-            (state, Call::AskBorder { .. } | Call::AskZone { .. }) => Some(state),
+            (_, Call::AskBorder { .. } | Call::AskZone { .. }) => Some(self),
             _ => None,
         }
     }

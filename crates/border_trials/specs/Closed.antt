@@ -4,9 +4,11 @@ use Rattle.std.proofs.Common.{sym, ap, subst, ◌∙◌, inl, inr, arith, of_z}
 use Rattle.std.specs.Int.{w32}
 use Rattle.std.proofs.lemmas.Bool.{eqb-true}
 use Rattle.std.proofs.lemmas.Int.{ints}
+use Rattle.equations.specs.declared.capacity.Direction.{Direction}
+use Rattle.equations.specs.declared.capacity.Direction.TheVariants.{Forward, Backward}
 use Rattle.borders.specs.Day.{Schedule, Period, in_day, place, figure_in}
 use Rattle.borders.specs.declared.BorderFault.TheVariants.{Take}
-use Rattle.borders.specs.Border.{margin_met, CanTake, Admitted, forward_of, backward_of, flow_of}
+use Rattle.borders.specs.Border.{margin_in, margin_met, CanTake, Admitted, forward_of, backward_of, flow_of}
 use Rattle.borders.specs.Laws.{Known}
 use Rattle.borders.specs.Days.{day_or_not, figure_day, figure_out}
 use Rattle.border_trials.specs.Shut.{closed}
@@ -27,6 +29,10 @@ forward_none p = told_none (in_day 1 p) (pos 0 -ℤ flow_of closed p) (ap (λ (x
 
 pub backward_none : (p : ℤ) → backward_of closed p ≡ pos 0
 backward_none p = told_none (in_day 1 p) (flow_of closed p -ℤ pos 0) (ap (λ (x : ℤ). x -ℤ pos 0) (still p))
+
+pub margin_none : (to : Direction) (p : ℤ) → margin_in closed to p ≡ pos 0
+margin_none Forward p = forward_none p
+margin_none Backward p = backward_none p
 
 no_move : (f b m : ℤ) → f ≡ pos 0 → b ≡ pos 0 → ((pos 0 <ℤ m) × (m ≤ℤ f)) ⊎ ((m <ℤ pos 0) × (neg_ℤ m ≤ℤ b)) → ⊥
 no_move f b m e d (inl h) = omega (arith, ints)

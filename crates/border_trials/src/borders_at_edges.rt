@@ -1,6 +1,7 @@
 // Borders at the edges of their ranges and of their day.
 use crate::shut::Shut;
-use borders::{Bank, Border, BorderFault, NoBorders, Over, Pair, Ramp, Sheet};
+use borders::{Bank, BankFault, Border, BorderFault, NoBorders, Over, Pair, Ramp, Sheet};
+use equations::Direction::{Backward, Forward};
 use equations::Side;
 use kinds::{Cable, Given, Line, Made, Settlement, Sheeted};
 use std::test::Fail;
@@ -114,8 +115,8 @@ fn ramp_at_the_ends_of_the_day(rt: HostRuntime) -> Result<(), Fail> {
         (24, 200, 0),
     ];
     for (period, forward, backward) in margins {
-        assert_eq!(rt; border.forward_margin(period), forward);
-        assert_eq!(rt; border.backward_margin(period), backward);
+        assert_eq!(rt; border.margin(Forward, period), forward);
+        assert_eq!(rt; border.margin(Backward, period), backward);
     }
     Ok(())
 }
@@ -137,8 +138,8 @@ fn overrun_after_a_derating(rt: HostRuntime) -> Result<(), Fail> {
     for (m, answer) in takes {
         assert_eq!(rt; cable.take(3, m), answer);
     }
-    assert_eq!(rt; cable.forward_margin(3), -50);
-    assert_eq!(rt; cable.backward_margin(3), 850);
+    assert_eq!(rt; cable.margin(Forward, 3), -50);
+    assert_eq!(rt; cable.margin(Backward, 3), 850);
     Ok(())
 }
 
@@ -153,7 +154,7 @@ fn ramp_over_a_ramp(rt: HostRuntime) -> Result<(), Fail> {
         };
         assert_eq!(rt; border.take(12, 51), Err(BorderFault::Take(50)));
         border.take(12, 50)?;
-        assert_eq!(rt; border.backward_margin(11), 0);
+        assert_eq!(rt; border.margin(Backward, 11), 0);
     }
     for rate in [0, 20_001] {
         let Err(refused) = Ramp::new(rate, Shut) else {
@@ -170,8 +171,8 @@ fn limits_follow_the_sheet(rt: HostRuntime) -> Result<(), Fail> {
     let mut s = sheet(500, 500);
     s.circuits = 1;
     settlement.reassess(&s, 24)?;
-    assert_eq!(rt; settlement.forward_margin(24), 485);
-    assert_eq!(rt; settlement.backward_margin(24), 492);
+    assert_eq!(rt; settlement.margin(Forward, 24), 485);
+    assert_eq!(rt; settlement.margin(Backward, 24), 492);
     let mut line = Sheeted::<Line>::make();
     let side = Side {
         first: 700,
@@ -190,8 +191,8 @@ fn limits_follow_the_sheet(rt: HostRuntime) -> Result<(), Fail> {
     // in the direction of the flow 537 of 887 - 350 and 887 - 300 + 60, against it 887 + 350
     now.power_flow = 350;
     line.reassess(&now, 1)?;
-    assert_eq!(rt; line.forward_margin(1), 537);
-    assert_eq!(rt; line.backward_margin(1), 1_237);
+    assert_eq!(rt; line.margin(Forward, 1), 537);
+    assert_eq!(rt; line.margin(Backward, 1), 1_237);
     Ok(())
 }
 
@@ -209,12 +210,12 @@ fn borders_of_different_makes(rt: HostRuntime) -> Result<(), Fail> {
     };
     assert_eq!(rt; bank.count(), 2);
     for (border, answer) in [(0, 0), (1, 0), (2, 20_000), (3, 0)] {
-        let Err(fault) = bank.take(border, 7, 20_001) else {
-            return Err(Fail::new("taken"));
+        let fault = BankFault {
+            border,
+            period: 7,
+            cause: BorderFault::Take(answer),
         };
-        assert_eq!(rt; fault.border, border);
-        assert_eq!(rt; fault.period, 7);
-        assert_eq!(rt; fault.cause, BorderFault::Take(answer));
+        assert_eq!(rt; bank.take(border, 7, 20_001), Err(fault));
     }
     assert!(rt; bank.take(2, 7, 20_000).is_ok());
     assert_eq!(rt; bank.flow(2, 7), 20_000);

@@ -4,6 +4,7 @@ ghost use Rattle.border_trials.specs.Shut.{closed};
 ghost use Rattle.border_trials.specs.Closed.{closed_known};
 
 use borders::{Border, BorderFault, Sheet};
+use equations::Direction;
 
 #[derive(Clone, Copy)]
 pub struct Shut;
@@ -21,11 +22,7 @@ impl Border for Shut {
         0
     }
 
-    fn forward_margin(&self, _period: i32) -> i32 {
-        0
-    }
-
-    fn backward_margin(&self, _period: i32) -> i32 {
+    fn margin(&self, _direction: Direction, _period: i32) -> i32 {
         0
     }
 

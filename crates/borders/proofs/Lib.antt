@@ -1,2 +1,4 @@
 pub mod Takes
 pub mod Banked
+pub mod Ramping
+pub mod Steps

@@ -2,9 +2,17 @@
 use Rattle.std.specs.Prelude.{◌≡◌, ℕ, ◌≤◌, Bool, cond, ◌&&◌, ◌⊎◌, length, ℤ, pos, ◌-ℤ◌, neg_ℤ, ◌≤ℤ◌, ◌<ℤ◌, Option, int_lt}
 use Rattle.std.specs.Int.{int_max}
 use Rattle.std.specs.Option.{option_map}
+use Rattle.equations.specs.declared.capacity.Side.{Side}
+use Rattle.equations.specs.declared.capacity.Direction.{Direction}
+use Rattle.equations.specs.declared.capacity.Direction.TheVariants.{Forward, Backward}
 use Rattle.borders.specs.declared.Sheet.{Sheet}
 use Rattle.borders.specs.Day.{Schedule, Period, in_day, figure_in, moved, Within}
 use Rattle.borders.specs.Limits.{ramped_upper, ramped_lower}
+
+-- the figures of a sheet for a direction
+abbrev pub side_of : Sheet → Direction → Side
+side_of t Forward = t.forward
+side_of t Backward = t.backward
 
 -- a limit for any schedule and period
 abbrev pub Rule : Type 0
@@ -47,6 +55,11 @@ forward_of b p = told_in b p (top b p -ℤ flow_of b p)
 abbrev pub backward_of : Meaning → ℤ → ℤ
 backward_of b p = told_in b p (flow_of b p -ℤ bottom b p)
 
+-- how far the flow lies within the limit of a direction
+abbrev pub margin_in : Meaning → Direction → ℤ → ℤ
+margin_in b Forward p = forward_of b p
+margin_in b Backward p = backward_of b p
+
 -- how far the flow lies beyond the limits
 unfoldable pub overrun : Meaning → ℤ → ℤ
 overrun b p = int_max (pos 0) (int_max (flow_of b p -ℤ top b p) (bottom b p -ℤ flow_of b p))
@@ -58,6 +71,10 @@ passing b sheet p = in_day (days_length b) p && b.passes sheet b.schedule p
 -- the moves that can be taken
 abbrev pub CanTake : Meaning → ℤ → ℤ → Type 0
 CanTake b p m = ((pos 0 <ℤ m) × (m ≤ℤ forward_of b p)) ⊎ ((m <ℤ pos 0) × (neg_ℤ m ≤ℤ backward_of b p))
+
+-- the direction in which a move goes: forward at 0
+abbrev pub direction_of : ℤ → Direction
+direction_of m = cond (int_lt m (pos 0)) Backward Forward
 
 -- the margin that a move meets: forward at 0
 abbrev pub margin_met : Meaning → ℤ → ℤ → ℤ

@@ -1,7 +1,10 @@
 -- How far limits may lie, and how a ramp narrows them.
-use Rattle.std.specs.Prelude.{cond, length, ℤ, pos, ◌+ℤ◌, ◌-ℤ◌, neg_ℤ, ◌≤ℤ◌}
+use Rattle.std.specs.Prelude.{Bool, cond, length, ℤ, pos, ◌+ℤ◌, ◌-ℤ◌, neg_ℤ, ◌≤ℤ◌}
 use Rattle.std.specs.Int.{int_max, int_min}
+use Rattle.equations.specs.Ranges.{between}
 use Rattle.equations.specs.Grounds.{tells}
+use Rattle.equations.specs.Capacities.{counted}
+use Rattle.equations.specs.declared.capacity.Direction.{Direction}
 use Rattle.equations.specs.declared.fault.Told.{Told}
 use Rattle.borders.specs.Day.{Schedule, in_day, figure_in}
 
@@ -26,6 +29,18 @@ capped_by R s q limit = cond (in_day (length s) q) (int_min limit (figure_in s q
 
 unfoldable pub lifted_by : ℤ → Schedule → ℤ → ℤ → ℤ
 lifted_by R s q limit = cond (in_day (length s) q) (int_max limit (figure_in s q -ℤ R)) limit
+
+-- whether the step from one flow to the next is at most R up or down
+abbrev pub step_within : ℤ → ℤ → ℤ → Bool
+step_within R before after = between (neg_ℤ R) (after -ℤ before) R
+
+-- how far the flow of period q lies ahead of that of period p, in a direction
+abbrev pub ahead_by : Direction → Schedule → ℤ → ℤ → ℤ
+ahead_by to s p q = counted to (figure_in s q -ℤ figure_in s p)
+
+-- so a neighbour leaves of a margin of period p no more than R and how far its flow lies ahead
+unfoldable pub left_by : ℤ → Direction → Schedule → ℤ → ℤ → ℤ → ℤ
+left_by R to s p q margin = cond (in_day (length s) q) (int_min margin (R +ℤ ahead_by to s p q)) margin
 
 -- the limits of period p under a ramp of rate R, for the schedule s
 abbrev pub ramped_upper : ℤ → Schedule → ℤ → ℤ → ℤ

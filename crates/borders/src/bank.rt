@@ -1,14 +1,15 @@
 //! The bank: borders of different makes by value, in nested pairs, told by number from 1.
 ghost use Rattle.std.specs.Prelude.{◌≡◌, ℕ, min, List, [], ◌∷◌, length, ℤ, pos, Decides};
-ghost use Rattle.borders.specs.Border.{Meaning, flow_of, forward_of, backward_of, passing, Admitted};
+ghost use Rattle.borders.specs.Border.{Meaning, flow_of, margin_in, passing, Admitted};
 ghost use Rattle.borders.specs.Answers.{MayTake, MayAdopt, MayReassess, TakeAnswer, AdoptAnswer, ReassessAnswer};
 ghost use Rattle.borders.specs.Laws.{Known, AllKnown};
 ghost use Rattle.borders.specs.Bank.{border_at, OthersStay, own_answer, Named};
 
 use crate::{Border, BorderFault, Sheet};
+use equations::Direction;
 
 /// A refusal of a border in the bank: its number, the period of the call (0 for an adoption), and the border's own refusal whole.
-#[derive(Clone, Copy)]
+#[derive(Clone, Copy, PartialEq, Eq, Debug)]
 pub struct BankFault {
     pub border: usize,
     pub period: i32,
@@ -20,14 +21,11 @@ fn numbered(border: usize, period: i32, answer: Result<(), BorderFault>) -> Resu
     ensures own { own_answer result ≡ answer }
     ensures named { Named border period result }
 {
-    match answer {
-        Ok(()) => Ok(()),
-        Err(cause) => Err(BankFault {
-            border,
-            period,
-            cause,
-        }),
-    }
+    answer.map_err(|cause| BankFault {
+        border,
+        period,
+        cause,
+    })
 }
 
 /// Borders told by number from 1. A call on a number is that border's own call and leaves the others as they are;
@@ -45,11 +43,8 @@ pub trait Bank {
     fn flow(&self, border: usize, period: i32) -> i32
         ensures { result ≡ flow_of (border_at (borders self.now) border) period };
 
-    fn forward_margin(&self, border: usize, period: i32) -> i32
-        ensures { result ≡ forward_of (border_at (borders self.now) border) period };
-
-    fn backward_margin(&self, border: usize, period: i32) -> i32
-        ensures { result ≡ backward_of (border_at (borders self.now) border) period };
+    fn margin(&self, border: usize, direction: Direction, period: i32) -> i32
+        ensures { result ≡ margin_in (border_at (borders self.now) border) direction period };
 
     fn passes(&self, border: usize, sheet: &Sheet, period: i32) -> bool
         ensures { result ≡ passing (border_at (borders self.now) border) sheet.now period };
@@ -162,11 +157,7 @@ impl Bank for NoBorders {
         0
     }
 
-    fn forward_margin(&self, _border: usize, _period: i32) -> i32 {
-        0
-    }
-
-    fn backward_margin(&self, _border: usize, _period: i32) -> i32 {
+    fn margin(&self, _border: usize, _direction: Direction, _period: i32) -> i32 {
         0
     }
 
@@ -206,8 +197,7 @@ impl<B: Border, R: Bank> Bank for Pair<B, R> {
     ghost known = { λ b. (B.Border.known b.first, R.Bank.known b.rest) };
 
     fn count(&self) -> usize {
-        let after = self.rest.count();
-        if after < 100 { after + 1 } else { after }
+        (self.rest.count() + 1).min(100)
     }
 
     fn periods(&self, border: usize) -> i32 {
@@ -224,18 +214,12 @@ impl<B: Border, R: Bank> Bank for Pair<B, R> {
         self.rest.flow(border.saturating_sub(1), period)
     }
 
-    fn forward_margin(&self, border: usize, period: i32) -> i32 {
+    fn margin(&self, border: usize, direction: Direction, period: i32) -> i32 {
         if border == 1 {
-            return self.first.forward_margin(period);
+            return self.first.margin(direction, period);
         }
-        self.rest.forward_margin(border.saturating_sub(1), period)
-    }
-
-    fn backward_margin(&self, border: usize, period: i32) -> i32 {
-        if border == 1 {
-            return self.first.backward_margin(period);
-        }
-        self.rest.backward_margin(border.saturating_sub(1), period)
+        self.rest
+            .margin(border.saturating_sub(1), direction, period)
     }
 
     fn passes(&self, border: usize, sheet: &Sheet, period: i32) -> bool {

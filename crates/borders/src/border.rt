@@ -1,10 +1,30 @@
 //! The interface of a border, its meaning and its laws.
-ghost use Rattle.std.specs.Prelude.{◌≡◌, ℤ, pos, Decides};
-ghost use Rattle.borders.specs.Border.{Meaning, days_length, flow_of, forward_of, backward_of, passing, Admitted};
+ghost use Rattle.std.specs.Prelude.{◌≡◌, ℤ, pos, Decides, unsigned_abs};
+ghost use Rattle.equations.specs.Ranges.{between};
+ghost use Rattle.borders.specs.Border.{Meaning, days_length, flow_of, margin_in, direction_of, passing, Admitted};
 ghost use Rattle.borders.specs.Laws.{Known};
 ghost use Rattle.borders.specs.Answers.{MayTake, TakeAnswer, AdoptAnswer, ReassessAnswer};
 
 use crate::{BorderFault, Sheet};
+use equations::Direction;
+
+// The direction in which a move goes, forward at 0.
+fn direction_of(m: i32) -> Direction
+    ensures { result ≡ direction_of m }
+{
+    if m < 0 {
+        Direction::Backward
+    } else {
+        Direction::Forward
+    }
+}
+
+// Whether a move, of 1 MW or more, is no larger than the margin that it meets.
+fn fits(m: i32, margin: i32) -> bool
+    ensures { result ≡ between (pos 1) (pos (unsigned_abs m)) margin }
+{
+    (1..=i64::from(margin)).contains(&i64::from(m.unsigned_abs()))
+}
 
 /// A border of some make. Every call is total: any period, any number, any length of a schedule.
 pub trait Border {
@@ -18,13 +38,9 @@ pub trait Border {
     fn flow(&self, period: i32) -> i32
         ensures { result ≡ flow_of (meaning self.now) period };
 
-    /// How far the flow lies below the upper limit.
-    fn forward_margin(&self, period: i32) -> i32
-        ensures { result ≡ forward_of (meaning self.now) period };
-
-    /// How far the flow lies above the lower limit.
-    fn backward_margin(&self, period: i32) -> i32
-        ensures { result ≡ backward_of (meaning self.now) period };
+    /// How far the flow lies within the limit of a direction: forward below the upper, backward above the lower.
+    fn margin(&self, direction: Direction, period: i32) -> i32
+        ensures { result ≡ margin_in (meaning self.now) direction period };
 
     /// Whether a sheet for a period passes the test now.
     fn passes(&self, sheet: &Sheet, period: i32) -> bool
@@ -38,20 +54,11 @@ pub trait Border {
     fn may_take(&self, period: i32, m: i32) -> Result<(), BorderFault>
         ensures { MayTake (meaning self.now) period m result }
     {
-        if m < 0 {
-            let margin = self.backward_margin(period);
-            if m < -margin {
-                Err(BorderFault::Take(margin))
-            } else {
-                Ok(())
-            }
+        let margin = self.margin(direction_of(m), period);
+        if fits(m, margin) {
+            Ok(())
         } else {
-            let margin = self.forward_margin(period);
-            if m == 0 || m > margin {
-                Err(BorderFault::Take(margin))
-            } else {
-                Ok(())
-            }
+            Err(BorderFault::Take(margin))
         }
     }
 

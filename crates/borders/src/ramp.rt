@@ -1,12 +1,13 @@
 //! A ramp over any border: no take and no adoption moves a period further than its rate from a neighbouring one.
 ghost use Rattle.std.specs.Prelude.{◌≡◌, pos, ◌≤ℤ◌, MatchResult};
-ghost use Rattle.borders.specs.Limits.{Rate, rate_told, capped_by, lifted_by};
+ghost use Rattle.equations.specs.Ranges.{between, Near};
+ghost use Rattle.borders.specs.Limits.{Rate, rate_told, step_within, ahead_by, left_by};
 ghost use Rattle.borders.specs.Border.{ramped, Meaning};
 ghost use Rattle.borders.specs.Ramps.{ramped_limited, can_below, test_over};
 ghost use Rattle.borders.specs.Eased.{ramp_eased};
 
 use crate::{Border, BorderFault, Sheet};
-use equations::Told;
+use equations::{Direction, Told};
 
 /// A ramp over a border, itself a border. Its rate is 1 to 20,000.
 #[derive(Drop)]
@@ -46,32 +47,55 @@ pub trait Over<B: Border>: Border {
 
 impl<B: Border> Over<B> for Ramp<B> {
     fn new(rate: i32, below: B) -> Result<Ramp<B>, RateRefused<B>> {
-        if rate < 1 || rate > 20_000 {
+        if !(1..=20_000).contains(&rate) {
             return Err(RateRefused { below });
         }
         Ok(Ramp { rate, below })
     }
 }
 
+// Whether a number lies from a low one to a high one, both included.
+fn lies(low: i64, x: i64, high: i64) -> bool
+    ensures { result ≡ between low x high }
+{
+    (low..=high).contains(&x)
+}
+
+// Whether a period is one of a day's.
+fn in_day(periods: i32, period: i32) -> bool
+    ensures { result ≡ between (pos 1) period periods }
+{
+    lies(1, i64::from(period), i64::from(periods))
+}
+
 impl<B: Border> Ramp<B> {
-    // An upper limit, as the neighbour q caps it.
-    fn capped(&self, q: i32, limit: i32) -> i32
-        ensures { result ≡ capped_by self.now.rate (B.Border.meaning self.now.below).schedule q limit }
+    // Whether a step from one flow to the next, up or down, is no larger than the rate.
+    fn step_fits(&self, before: i32, after: i32) -> bool
+        ensures { result ≡ step_within self.now.rate before after }
     {
-        if q < 1 || q > self.below.periods() {
-            return limit;
-        }
-        limit.min(self.below.flow(q) + self.rate)
+        let rate = i64::from(self.rate);
+        lies(-rate, i64::from(after) - i64::from(before), rate)
     }
 
-    // A lower limit, as the neighbour q lifts it.
-    fn lifted(&self, q: i32, limit: i32) -> i32
-        ensures { result ≡ lifted_by self.now.rate (B.Border.meaning self.now.below).schedule q limit }
+    // How far the flow of period q lies ahead of that of another period, in a direction.
+    fn ahead(&self, direction: Direction, period: i32, q: i32) -> i32
+        ensures value { result ≡ ahead_by direction (B.Border.meaning self.now.below).schedule period q }
+        ensures near { Near 60000 result }
     {
-        if q < 1 || q > self.below.periods() {
-            return limit;
+        match direction {
+            Direction::Forward => self.below.flow(q) - self.below.flow(period),
+            Direction::Backward => self.below.flow(period) - self.below.flow(q),
         }
-        limit.max(self.below.flow(q) - self.rate)
+    }
+
+    // What the neighbour q leaves of a margin of a period: no more than the rate and how far its flow lies ahead.
+    fn left(&self, direction: Direction, period: i32, q: i32, margin: i32) -> i32
+        ensures { result ≡ left_by self.now.rate direction (B.Border.meaning self.now.below).schedule period q margin }
+    {
+        if !in_day(self.below.periods(), q) {
+            return margin;
+        }
+        margin.min(self.rate + self.ahead(direction, period, q))
     }
 }
 
@@ -98,22 +122,13 @@ impl<B: Border> Border for Ramp<B> {
         self.below.flow(period)
     }
 
-    fn forward_margin(&self, period: i32) -> i32 {
-        if period < 1 || period > self.below.periods() {
+    fn margin(&self, direction: Direction, period: i32) -> i32 {
+        if !in_day(self.below.periods(), period) {
             return 0;
         }
-        let flow = self.below.flow(period);
-        let limit = self.below.forward_margin(period) + flow;
-        self.capped(period + 1, self.capped(period - 1, limit)) - flow
-    }
-
-    fn backward_margin(&self, period: i32) -> i32 {
-        if period < 1 || period > self.below.periods() {
-            return 0;
-        }
-        let flow = self.below.flow(period);
-        let limit = flow - self.below.backward_margin(period);
-        flow - self.lifted(period + 1, self.lifted(period - 1, limit))
+        let margin = self.below.margin(direction, period);
+        let margin = self.left(direction, period, period - 1, margin);
+        self.left(direction, period, period + 1, margin)
     }
 
     fn passes(&self, sheet: &Sheet, period: i32) -> bool {
@@ -121,16 +136,11 @@ impl<B: Border> Border for Ramp<B> {
     }
 
     fn admits(&self, schedule: &[i32]) -> bool {
-        if !self.below.admits(schedule) {
-            return false;
-        }
-        for k in 1..schedule.len() {
-            let step = schedule[k] - schedule[k - 1];
-            if step > self.rate || step < -self.rate {
-                return false;
-            }
-        }
-        true
+        self.below.admits(schedule)
+            && schedule
+                .iter()
+                .zip(schedule.iter().skip(1))
+                .all(|(before, after)| self.step_fits(*before, *after))
     }
 
     fn take(&mut self, period: i32, m: i32) -> Result<(), BorderFault> {

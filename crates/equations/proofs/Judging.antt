@@ -3,13 +3,10 @@ use Rattle.std.proofs.Common.{◌≡◌, ℕ, suc, ◌+◌, ◌<◌, Bool, true,
 use Rattle.std.proofs.lemmas.List.Sums.{prefix_len-le-length}
 use Rattle.std.proofs.lemmas.Bool.{lt-ltb, le-ltb}
 use Rattle.std.specs.List.{prefix_len}
-use Rattle.equations.specs.declared.fault.FigureFault.TheVariants.{Overall, Entry}
+use Rattle.equations.specs.declared.fault.FigureFault.TheVariants.{Entry}
 use Rattle.equations.specs.Grounds.{refused_at, Judged}
 
 module _ {X R : Type 0} (P : R → Type 0) (whole : Bool) (allowed : X → Bool) (xs : List X) where
-  pub judged_overall : whole ≡ false → Judged (refused_at whole allowed xs) P (Err Overall)
-  judged_overall e = rw e (refl, refl)
-
   pub judged_entry : (i : ℕ) → whole ≡ true → prefix_len allowed xs ≡ i → i < length xs → Judged (refused_at whole allowed xs) P (Err (Entry (i + 1)))
   judged_entry i e l h = let t = lt-ltb i (length xs) h in rw (e, l, t, add-one i) (refl, refl)
 

@@ -1,6 +1,9 @@
 pub mod Judging
 pub mod Available
+pub mod Fitting
+pub mod Halving
 pub mod Products
+pub mod Ranged
 pub mod Reaching
 pub mod Sourced
 pub mod Totals

@@ -1,15 +1,10 @@
 -- What is reached below the margin, and where nothing is reached any more.
-use Rattle.std.proofs.Common.{◌≡◌, ℕ, zero, suc, ◌*◌, ◌≤◌, ℤ, pos, negsuc, ◌+ℤ◌, ◌-ℤ◌, ◌*ℤ◌, neg_ℤ, nat_abs, ◌≤ℤ◌, refl, ap, ◌∙◌, inl, inr, mul-le-mul, div-le_self, arith, w64, SFits}
+use Rattle.std.proofs.Common.{◌≡◌, ℕ, zero, suc, ◌*◌, ◌≤◌, ℤ, pos, negsuc, ◌+ℤ◌, ◌-ℤ◌, ◌*ℤ◌, neg_ℤ, nat_abs, ◌≤ℤ◌, refl, ap, ◌∙◌, inl, inr, mul-le-mul, arith}
 use lib.IntN.{+ℤ_idr, +ℤ-suc_ℤ, suc_ℤ-*ℤ}
 use lib.Signed.{quot_z}
 use Rattle.std.proofs.lemmas.Int.{ints, by_lt_z}
-use Rattle.equations.specs.Ranges.{Near}
-use Rattle.equations.proofs.Products.{near_product}
+use Rattle.equations.proofs.Fitting.{square_least, spreading, quotient_between}
 use Rattle.equations.specs.Margins.{excess, square_bound_lem, spread, Reached, Greatest, AllowedSums}
-
-pub square_least : (a : ℤ) → pos 0 ≤ℤ (a *ℤ a)
-square_least (pos a) = omega (arith, ints)
-square_least (negsuc a) = omega (arith, ints)
 
 square_grows : (a b : ℤ) → pos 0 ≤ℤ a → a ≤ℤ b → (a *ℤ a) ≤ℤ (b *ℤ b)
 square_grows (pos a) (pos b) h k = let l : a ≤ b = omega (arith, ints) in let p = mul-le-mul l l in omega (arith, ints)
@@ -54,30 +49,6 @@ pub last_reached : (n S B t : ℤ) → pos 0 ≤ℤ n → Reached n S B t → (R
 last_reached n S B t h here beyond =
     record { reached = here; greatest = λ u r. by_lt_z t u (λ p. absurd (beyond (reached_below n S B u (t +ℤ pos 1) h (omega (arith, ints)) r))) (λ p. p) }
 
--- every part of the spread fits a machine number
-pub record Fitting (p q : ℤ) : Type 0 where
-  pub product : SFits w64 p
-  pub square : SFits w64 q
-  pub difference : SFits w64 (p -ℤ q)
-  pub whole : SFits w64 (pos 4 *ℤ (p -ℤ q))
-  pub least : pos 0 ≤ℤ (pos 4 *ℤ (p -ℤ q))
-  pub most : (pos 4 *ℤ (p -ℤ q)) ≤ℤ pos 40000000000000000
-
-pub fitting : (n S Q : ℤ) → AllowedSums n S Q → Fitting (n *ℤ Q) (S *ℤ S)
-fitting n S Q s =
-    let ns : Near 100000000 S = (omega (arith, ints), omega (arith, ints)) in
-    let nn : Near 44640 n = (omega (arith, ints), omega (arith, ints)) in
-    let nq : Near 200000000000 Q = (omega (arith, ints), omega (arith, ints)) in
-    parts (n *ℤ Q) (S *ℤ S) (near_product 44640 200000000000 n Q nn nq) (square_least S) s.covered
-  where
-    parts : (p q : ℤ) → Near (44640 * 200000000000) p → pos 0 ≤ℤ q → q ≤ℤ p → Fitting p q
-    parts p q h k l = record { product = omega (arith, ints); square = omega (arith, ints); difference = omega (arith, ints); whole = omega (arith, ints); least = omega (arith, ints); most = omega (arith, ints) }
-
-pub quotient_between : (v m : ℤ) → pos 0 ≤ℤ v → pos 1 ≤ℤ m → (pos 0 ≤ℤ quot_z v m) × (quot_z v m ≤ℤ v)
-quotient_between (pos v) (pos m) h k = let d = div-le_self v m in (omega (arith, ints), omega (arith, ints))
-quotient_between (pos v) (negsuc m) h k = absurd k.le
-quotient_between (negsuc v) m h k = absurd h.le
-
 -- what is reached at most, in products of naturals
 beyond : (k q : ℕ) (S : ℤ) → 2 ≤ k → q ≤ 4000000 * k → S ≤ℤ pos (2000 * k) → (v w x : ℤ) → v ≤ℤ pos (4 * (k * q)) → w ≤ℤ v → x ≡ pos (12383 * k) -ℤ pos 2 *ℤ S → (x *ℤ x) ≤ℤ (v +ℤ w) → ⊥
 beyond k q S few most high v w x hv hw e under =
@@ -93,13 +64,13 @@ spread_most p q h = omega (arith, ints)
 -- no margin comes to 6,192
 pub top_missed : (n S Q : ℤ) → AllowedSums n S Q → Reached n S (square_bound_lem n S Q) (pos 6192) → ⊥
 top_missed (pos k) S (pos q) s (inl low) =
-    let a = s.sum_most in let b = s.few in omega (arith, ints)
+    let a = s.in_range.sum_most in let b = s.in_range.few in omega (arith, ints)
 top_missed (pos k) S (pos q) s (inr under) =
-    let f = fitting (pos k) S (pos q) s in
-    let d = quotient_between (spread (pos k) S (pos q)) (pos k -ℤ pos 1) f.least (omega (arith, ints, s.few)) in
-    beyond k q S (omega (arith, ints, s.few)) (omega (arith, ints, s.squares_most)) s.sum_most (spread (pos k) S (pos q)) (quot_z (spread (pos k) S (pos q)) (pos k -ℤ pos 1)) (excess (pos k) S (pos 6192)) (spread_most (pos (k * q)) (S *ℤ S) (square_least S)) d.1 refl under
-top_missed (pos k) S (negsuc q) s r = absurd s.squares_least.le
-top_missed (negsuc k) S Q s r = absurd s.few.le
+    let f = spreading (pos k) S (pos q) s in
+    let d = quotient_between (spread (pos k) S (pos q)) (pos k -ℤ pos 1) f.least (omega (arith, ints, s.in_range.few)) in
+    beyond k q S (omega (arith, ints, s.in_range.few)) (omega (arith, ints, s.in_range.squares_most)) s.in_range.sum_most (spread (pos k) S (pos q)) (quot_z (spread (pos k) S (pos q)) (pos k -ℤ pos 1)) (excess (pos k) S (pos 6192)) (spread_most (pos (k * q)) (S *ℤ S) (square_least S)) d.1 refl under
+top_missed (pos k) S (negsuc q) s r = absurd s.in_range.squares_least.le
+top_missed (negsuc k) S Q s r = absurd s.in_range.few.le
 
 -- there is one margin
 pub greatest_once : (n S B t u : ℤ) → Greatest n S B t → Greatest n S B u → t ≡ u

@@ -1,8 +1,7 @@
--- A source within its bounds: what it weighs, and that all are where no first one is refused.
-use Rattle.std.proofs.Common.{◌≡◌, ℕ, zero, suc, ◌+◌, ◌*◌, ◌<◌, Bool, true, false, cond, List, [], ◌∷◌, length, get_or, ℤ, pos, negsuc, ◌*ℤ◌, ◌≤ℤ◌, refl, arith}
+-- What a source within its bounds weighs.
+use Rattle.std.proofs.Common.{◌≡◌, ℕ, ◌*◌, true, ℤ, pos, negsuc, ◌*ℤ◌, ◌≤ℤ◌, arith}
 use Rattle.std.proofs.lemmas.Int.{ints}
 use Rattle.std.proofs.lemmas.Bool.Decides.{nat_tests}
-use Rattle.std.specs.List.{prefix_len}
 use Rattle.equations.specs.declared.sources.Source.{Source}
 use Rattle.equations.specs.declared.sources.Row.{Row}
 use Rattle.equations.specs.declared.sources.Row.TheVariants.{Hundred, Fifty, Zero}
@@ -28,13 +27,3 @@ product_least (negsuc a) b h k = absurd h.le
 
 pub product_between : (a b : ℤ) (A B : ℕ) → (pos 0 ≤ℤ a) × (a ≤ℤ pos A) → (pos 0 ≤ℤ b) × (b ≤ℤ pos B) → (pos 0 ≤ℤ (a *ℤ b)) × ((a *ℤ b) ≤ℤ pos (A * B))
 product_between a b A B h k = (product_least a b h.0 k.0, (near_product A B a b (omega (arith, ints), h.1) (omega (arith, ints), k.1)).1)
-
--- where the front that passes is the whole list, every entry passes
-pub all_pass : {X : Type 0} (p : X → Bool) (xs : List X) (d : X) → prefix_len p xs ≡ length xs → (i : ℕ) → i < length xs → p (get_or xs i d) ≡ true
-all_pass p [] d e i h = absurd (omega arith)
-all_pass p (x ∷ xs) d e i h = by_head p x xs d (all_pass p xs d) (p x) refl e i h
-  where
-    by_head : {X : Type 0} (p : X → Bool) (x : X) (xs : List X) (d : X) → (prefix_len p xs ≡ length xs → (j : ℕ) → j < length xs → p (get_or xs j d) ≡ true) → (t : Bool) → p x ≡ t → cond t (1 + prefix_len p xs) 0 ≡ suc (length xs) → (i : ℕ) → i < suc (length xs) → p (get_or (x ∷ xs) i d) ≡ true
-    by_head p x xs d rest true t l zero h = t
-    by_head p x xs d rest true t l (suc j) h = rest (omega arith) j (omega arith)
-    by_head p x xs d rest false t l i h = absurd (omega arith)

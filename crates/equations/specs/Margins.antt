@@ -37,14 +37,18 @@ pub record Greatest (n S B t : ℤ) : Type 0 where
 abbrev pub Margin : ℤ → ℤ → ℤ → ℤ → Type 0
 Margin n S Q t = Greatest n S (square_bound_lem n S Q) t
 
--- the bounds that n, S and Q of 2 to 44,640 deviations within ±2,000 keep
-pub record AllowedSums (n S Q : ℤ) : Type 0 where
+-- n is 2 to 44,640, and S and Q lie within what n deviations within ±2,000 come to
+pub record SumsInRange (n S Q : ℤ) : Type 0 where
   pub few : pos 2 ≤ℤ n
   pub many : n ≤ℤ pos 44640
   pub sum_least : neg_ℤ (pos 2000 *ℤ n) ≤ℤ S
   pub sum_most : S ≤ℤ (pos 2000 *ℤ n)
   pub squares_least : pos 0 ≤ℤ Q
   pub squares_most : Q ≤ℤ (pos 4000000 *ℤ n)
+
+-- the bounds that n, S and Q of 2 to 44,640 deviations within ±2,000 keep
+pub record AllowedSums (n S Q : ℤ) : Type 0 where
+  pub in_range : SumsInRange n S Q
   pub covered : (S *ℤ S) ≤ℤ (n *ℤ Q)
 
 -- ---- from deviations

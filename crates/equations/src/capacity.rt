@@ -4,14 +4,27 @@ ghost use Rattle.equations.specs.Ranges.{Near, Small};
 ghost use Rattle.equations.specs.Capacities.{counted, settled_capacity, circuit_cap, uncut_capacity, cut_at_0, net_capacity, line_available, available, limit_of};
 
 /// A direction over a border: forward is from the parent zone to the border's own zone.
-#[derive(Clone, Copy)]
+#[derive(Clone, Copy, PartialEq, Eq, Debug)]
 pub enum Direction {
     Forward,
     Backward,
 }
 
+impl Direction {
+    // A flow that is given forward, counted in this direction.
+    fn counted(self, flow: i32) -> i64
+        ensures value { result ≡ counted self flow }
+        ensures near { Small result }
+    {
+        match self {
+            Direction::Forward => i64::from(flow),
+            Direction::Backward => -i64::from(flow),
+        }
+    }
+}
+
 /// The figures of a sheet for one direction, in MW.
-#[derive(Clone, Copy)]
+#[derive(Clone, Copy, PartialEq, Eq, Debug)]
 pub struct Side {
     pub first: i32,
     pub second: i32,
@@ -20,7 +33,7 @@ pub struct Side {
 }
 
 /// How the kinds of border form their capacities.
-#[derive(Clone, Copy)]
+#[derive(Clone, Copy, PartialEq, Eq, Debug)]
 pub enum Formula {
     Cable,
     /// With the number of its circuits in operation.
@@ -29,26 +42,15 @@ pub enum Formula {
     Given,
 }
 
-// A flow that is given forward, counted in a direction.
-fn count_in(direction: Direction, flow: i32) -> i64
-    ensures value { result ≡ counted direction flow }
-    ensures near { Small result }
-{
-    match direction {
-        Direction::Forward => i64::from(flow),
-        Direction::Backward => -i64::from(flow),
-    }
-}
-
 // What a capacity counts for at a settlement border: below 50 MW nothing.
-fn settled(capacity: i64) -> i64
+fn settled(capacity: i32) -> i32
     ensures { result ≡ settled_capacity capacity }
 {
     if capacity < 50 { 0 } else { capacity }
 }
 
 // What a settlement border carries at most.
-fn cap_of(direction: Direction, circuits: i32) -> i64
+fn cap_of(direction: Direction, circuits: i32) -> i32
     ensures { result ≡ circuit_cap direction circuits }
 {
     match direction {
@@ -57,44 +59,11 @@ fn cap_of(direction: Direction, circuits: i32) -> i64
     }
 }
 
-// The net capacity in a direction, not yet cut at 0.
-fn form(formula: Formula, direction: Direction, side: &Side) -> i64
-    ensures value { result ≡ uncut_capacity formula direction side.now }
-    ensures near { Small result }
-{
-    let first = i64::from(side.first);
-    let second = i64::from(side.second);
-    let margin = i64::from(side.margin);
-    match formula {
-        Formula::Cable => first.min(second),
-        Formula::Settlement(circuits) => settled(first)
-            .min(settled(second))
-            .min(cap_of(direction, circuits)),
-        Formula::Line => (first + i64::from(side.reserve) - margin).min(second - margin),
-        Formula::Given => first,
-    }
-}
-
-/// The net capacity in a direction, not yet cut at 0: what lowers it later comes off before the cut.
-pub fn uncut_ntc(formula: Formula, direction: Direction, side: &Side) -> i64
-    ensures { result ≡ uncut_capacity formula direction side.now }
-{
-    form(formula, direction, side)
-}
-
 /// A capacity below 0 becomes 0.
 pub fn cut(capacity: i64) -> i64
     ensures { result ≡ cut_at_0 capacity }
 {
     capacity.max(0)
-}
-
-// The net capacity in a direction.
-fn net(formula: Formula, direction: Direction, side: &Side) -> i64
-    ensures value { result ≡ net_capacity formula direction side.now }
-    ensures near { Small result }
-{
-    cut(form(formula, direction, side))
 }
 
 // What of a line's net capacity is left in a direction, with flow and power flow counted in it.
@@ -111,38 +80,88 @@ fn line_left(capacity: i64, margin: i64, flow: i64, power_flow: i64) -> i64
     }
 }
 
-// What of the net capacity is left in a direction.
-fn left(formula: Formula, direction: Direction, side: &Side, flow: i32, power_flow: i32) -> i64
-    ensures value { result ≡ available formula direction side.now flow power_flow }
-    ensures near { Near 4000000000000 result }
-{
-    let capacity = net(formula, direction, side);
-    let flow = count_in(direction, flow);
-    match formula {
-        Formula::Line => line_left(
-            capacity,
-            i64::from(side.margin),
-            flow,
-            count_in(direction, power_flow),
-        ),
-        Formula::Cable | Formula::Settlement(_) | Formula::Given => capacity - flow,
+/// A border in one direction: the formula of its kind, the direction, and the sheet's figures for it.
+#[derive(Clone, Copy, PartialEq, Eq, Debug)]
+pub struct OneWay {
+    pub formula: Formula,
+    pub direction: Direction,
+    pub side: Side,
+}
+
+impl OneWay {
+    // The net capacity, not yet cut at 0, and how far from 0 it lies.
+    fn form(&self) -> i64
+        ensures value { result ≡ uncut_capacity self.now.formula self.now.direction self.now.side }
+        ensures near { Small result }
+    {
+        let Side {
+            first,
+            second,
+            margin,
+            reserve,
+        } = self.side;
+        match self.formula {
+            Formula::Cable => i64::from(first.min(second)),
+            Formula::Settlement(circuits) => {
+                let cap = cap_of(self.direction, circuits);
+                i64::from(settled(first).min(settled(second)).min(cap))
+            }
+            Formula::Line => {
+                let margin = i64::from(margin);
+                (i64::from(first) + i64::from(reserve) - margin).min(i64::from(second) - margin)
+            }
+            Formula::Given => i64::from(first),
+        }
     }
-}
 
-/// The available capacity in a direction, at a flow and a power flow that are given forward. It may be below 0.
-pub fn atc(formula: Formula, direction: Direction, side: &Side, flow: i32, power_flow: i32) -> i64
-    ensures { result ≡ available formula direction side.now flow power_flow }
-{
-    left(formula, direction, side, flow, power_flow)
-}
+    /// The net capacity, not yet cut at 0: what lowers it later comes off before the cut.
+    pub fn uncut_ntc(&self) -> i64
+        ensures { result ≡ uncut_capacity self.now.formula self.now.direction self.now.side }
+    {
+        self.form()
+    }
 
-/// The limit in a direction: the flow and, forward, its available capacity more, backward, its available capacity less.
-pub fn limit(formula: Formula, direction: Direction, side: &Side, flow: i32, power_flow: i32) -> i64
-    ensures { result ≡ limit_of formula direction side.now flow power_flow }
-{
-    let available = left(formula, direction, side, flow, power_flow);
-    match direction {
-        Direction::Forward => i64::from(flow) + available,
-        Direction::Backward => i64::from(flow) - available,
+    // The net capacity, and how far from 0 it lies.
+    fn net(&self) -> i64
+        ensures value { result ≡ net_capacity self.now.formula self.now.direction self.now.side }
+        ensures near { Small result }
+    {
+        cut(self.form())
+    }
+
+    // What of the net capacity is left, and how far from 0 it lies.
+    fn left(&self, flow: i32, power_flow: i32) -> i64
+        ensures value { result ≡ available self.now.formula self.now.direction self.now.side flow power_flow }
+        ensures near { Near 4000000000000 result }
+    {
+        let capacity = self.net();
+        let flow = self.direction.counted(flow);
+        match self.formula {
+            Formula::Line => line_left(
+                capacity,
+                i64::from(self.side.margin),
+                flow,
+                self.direction.counted(power_flow),
+            ),
+            Formula::Cable | Formula::Settlement(_) | Formula::Given => capacity - flow,
+        }
+    }
+
+    /// The available capacity, at a flow and a power flow that are given forward. It may be below 0.
+    pub fn atc(&self, flow: i32, power_flow: i32) -> i64
+        ensures { result ≡ available self.now.formula self.now.direction self.now.side flow power_flow }
+    {
+        self.left(flow, power_flow)
+    }
+
+    /// The limit: the flow and, forward, its available capacity more, backward, its available capacity less.
+    pub fn limit(&self, flow: i32, power_flow: i32) -> i64
+        ensures { result ≡ limit_of self.now.formula self.now.direction self.now.side flow power_flow }
+    {
+        let available = self.left(flow, power_flow);
+        match self.direction {
+            Direction::Forward => i64::from(flow) + available,
+            Direction::Backward => i64::from(flow) - available,
+        }
     }
 }

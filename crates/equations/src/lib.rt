@@ -6,7 +6,7 @@ pub mod deviations;
 pub mod fault;
 pub mod sources;
 
-pub use capacity::{Direction, Formula, Side, atc, cut, limit, uncut_ntc};
-pub use deviations::{margin, margin_of_sums};
+pub use capacity::{Direction, Formula, OneWay, Side, cut};
+pub use deviations::{Sums, margin};
 pub use fault::{FigureFault, Told};
 pub use sources::{Source, reserve};

@@ -15,21 +15,40 @@ pub struct Source {
     pub row0: i32,
 }
 
+impl Source {
+    // Whether each of its numbers is within its bounds.
+    fn in_bounds(&self) -> bool
+        ensures { result ≡ source_allowed self.now }
+    {
+        matches!(
+            self,
+            Source {
+                power: 0..=5_000,
+                row100: 0..=100,
+                row50: 0..=100,
+                row0: 0..=100,
+            }
+        )
+    }
+
+    // Its coefficient in a row.
+    fn coefficient(&self, row: Row) -> i32
+        ensures { result ≡ coefficient row self.now }
+    {
+        match row {
+            Row::Hundred => self.row100,
+            Row::Fifty => self.row50,
+            Row::Zero => self.row0,
+        }
+    }
+}
+
 /// A row of coefficients, by how much of the sources' power the down-regulation covers.
 #[derive(Clone, Copy)]
 pub enum Row {
     Hundred,
     Fifty,
     Zero,
-}
-
-fn in_bounds(source: &Source) -> bool
-    ensures { result ≡ source_allowed source.now }
-{
-    ((0 <= source.power) & (source.power <= 5_000))
-        & ((0 <= source.row100) & (source.row100 <= 100))
-        & ((0 <= source.row50) & (source.row50 <= 100))
-        & ((0 <= source.row0) & (source.row0 <= 100))
 }
 
 // The row that serves.
@@ -46,16 +65,6 @@ fn row_for(power: i32, regulation: i32) -> Row
     }
 }
 
-fn coefficient_of(source: &Source, row: Row) -> i32
-    ensures { result ≡ coefficient row source.now }
-{
-    match row {
-        Row::Hundred => source.row100,
-        Row::Fifty => source.row50,
-        Row::Zero => source.row0,
-    }
-}
-
 // The power of all sources; the first one out of its bounds is refused.
 fn total_power(sources: &[Source]) -> Result<i32, FigureFault>
     requires { length sources.now ≤ 8 }
@@ -63,7 +72,7 @@ fn total_power(sources: &[Source]) -> Result<i32, FigureFault>
 {
     let mut power: i32 = 0;
     for (i, source) in sources.iter().enumerate() {
-        if !in_bounds(source) {
+        if !source.in_bounds() {
             return Err(FigureFault::Entry((i + 1) as u16));
         }
         power += source.power;
@@ -80,7 +89,7 @@ fn weigh(sources: &[Source], row: Row) -> i32
 {
     let mut sum: i32 = 0;
     for source in sources {
-        sum += coefficient_of(source, row) * source.power;
+        sum += source.coefficient(row) * source.power;
     }
     sum
 }
@@ -89,7 +98,7 @@ fn weigh(sources: &[Source], row: Row) -> i32
 pub fn reserve(sources: &[Source], regulation: i32) -> Result<i32, FigureFault>
     ensures { Judged (reserve_refused sources.now regulation) (λ x. x ≡ reserve_of sources.now regulation) result }
 {
-    if sources.len() > 8 || regulation < 0 || regulation > 5_000 {
+    if sources.len() > 8 || !(0..=5_000).contains(&regulation) {
         return Err(FigureFault::Overall);
     }
     let power = total_power(sources)?;

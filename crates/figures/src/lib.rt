@@ -7,10 +7,8 @@ ghost use Rattle.equations.specs.Capacities.{net_capacity, cut_at_0};
 ghost use Rattle.equations.specs.declared.capacity.Direction.TheVariants.{Forward};
 ghost use Rattle.figures.specs.Worked.{GivenBy, rules, expected, expected_margins, expected_reserves, expected_settlements, expected_lines, expected_cable, expected_ramp, cable_sheet_lem, wide_sheet_lem, two_capacities_lem, full_source_lem};
 
-use borders::{Border, BorderFault, Over, Ramp, Sheet};
-use equations::{
-    Direction, FigureFault, Formula, Side, Source, atc, cut, margin, reserve, uncut_ntc,
-};
+use borders::{Border, BorderFault, Over, Ramp, RateRefused, Sheet};
+use equations::{Direction, FigureFault, Formula, OneWay, Side, Source, cut, margin, reserve};
 use kinds::{Cable, Given, Made, Sheeted};
 
 /// Why a figure could not be worked out, which never happens.
@@ -24,6 +22,12 @@ pub enum Unworked {
 impl From<FigureFault> for Unworked {
     fn from(fault: FigureFault) -> Unworked {
         Unworked::Figure(fault)
+    }
+}
+
+impl<B: Drop> From<RateRefused<B>> for Unworked {
+    fn from(_fault: RateRefused<B>) -> Unworked {
+        Unworked::Rate
     }
 }
 
@@ -85,7 +89,12 @@ fn two_capacities(first: i32, second: i32) -> Side
 fn settled(formula: Formula, first: i32, second: i32) -> i64
     ensures { result ≡ net_capacity formula Forward (two_capacities_lem first second) }
 {
-    cut(uncut_ntc(formula, Direction::Forward, &two_capacities(first, second)))
+    let forward = OneWay {
+        formula,
+        direction: Direction::Forward,
+        side: two_capacities(first, second),
+    };
+    cut(forward.uncut_ntc())
 }
 
 // The net capacities of a settlement border.
@@ -106,17 +115,20 @@ fn settlements() -> [i64; 4]
 fn line_figures() -> [i64; 3]
     ensures { result ≡ expected_lines }
 {
-    let forward = Direction::Forward;
-    let side = Side {
-        first: 700,
-        second: 1_000,
-        margin: 60,
-        reserve: 247,
+    let line = OneWay {
+        formula: Formula::Line,
+        direction: Direction::Forward,
+        side: Side {
+            first: 700,
+            second: 1_000,
+            margin: 60,
+            reserve: 247,
+        },
     };
     [
-        cut(uncut_ntc(Formula::Line, forward, &side)),
-        atc(Formula::Line, forward, &side, 300, 350),
-        atc(Formula::Line, forward, &side, 300, 200),
+        cut(line.uncut_ntc()),
+        line.atc(300, 350),
+        line.atc(300, 200),
     ]
 }
 
@@ -166,8 +178,8 @@ fn derated_cable() -> Result<[i64; 3], Unworked>
     border.reassess(&cable_sheet(500, 500), 1)?;
     border.take(1, 400)?;
     border.reassess(&cable_sheet(300, 500), 1)?;
-    let forward = border.forward_margin(1);
-    let backward = border.backward_margin(1);
+    let forward = border.margin(Direction::Forward, 1);
+    let backward = border.margin(Direction::Backward, 1);
     Ok([
         beyond(forward, backward),
         tradable(forward),
@@ -183,13 +195,11 @@ fn beside_a_take() -> Result<[i64; 2], Unworked>
     let mut below = Sheeted::<Given>::make();
     below.reassess(&wide, 4)?;
     below.reassess(&wide, 5)?;
-    let Ok(mut border) = Ramp::new(200, below) else {
-        return Err(Unworked::Rate);
-    };
+    let mut border = Ramp::new(200, below)?;
     border.take(5, 200)?;
     Ok([
-        tradable(border.forward_margin(4)),
-        tradable(border.backward_margin(4)),
+        tradable(border.margin(Direction::Forward, 4)),
+        tradable(border.margin(Direction::Backward, 4)),
     ])
 }
 

@@ -1,8 +1,9 @@
 -- The four kinds: the sheets that pass, and the limits that a sheet gives with the flow a at its acceptance.
-use Rattle.std.specs.Prelude.{Bool, ◌&&◌, ℤ, pos, neg_ℤ, int_le}
+use Rattle.std.specs.Prelude.{Bool, ◌&&◌, ℤ, pos, ◌-ℤ◌, neg_ℤ, int_le}
 use Rattle.equations.specs.Ranges.{between}
 use Rattle.equations.specs.Capacities.{limit_of, net_capacity}
 use Rattle.equations.specs.declared.capacity.Side.{Side}
+use Rattle.equations.specs.declared.capacity.Direction.{Direction}
 use Rattle.equations.specs.declared.capacity.Direction.TheVariants.{Forward, Backward}
 use Rattle.equations.specs.declared.capacity.Formula.{Formula}
 use Rattle.equations.specs.declared.capacity.Formula.TheVariants.{Cable, Settlement, Line, Given}
@@ -24,6 +25,20 @@ one_used s = amount s.first && none s.second && none s.margin && none s.reserve
 
 abbrev pub all_used : Side → Bool
 all_used s = amount s.first && amount s.second && between (pos 0) s.margin (pos 2000) && amount s.reserve
+
+-- each figure of a side 0 to its most
+abbrev pub side_within : Side → Side → Bool
+side_within most s = between (pos 0) s.first most.first && between (pos 0) s.second most.second && between (pos 0) s.margin most.margin && between (pos 0) s.reserve most.reserve
+
+-- how far a flow lies within a lower and an upper limit, in a direction
+abbrev pub within_of : ℤ → ℤ → Direction → ℤ → ℤ
+within_of lo hi Forward a = hi -ℤ a
+within_of lo hi Backward a = a -ℤ lo
+
+-- the limit of a sheet that a direction meets: the upper one forward, the lower one backward
+abbrev pub limit_toward : (Sheet → ℤ → ℤ) → (Sheet → ℤ → ℤ) → Direction → Sheet → ℤ → ℤ
+limit_toward lo hi Forward t a = hi t a
+limit_toward lo hi Backward t a = lo t a
 
 -- cable, settlement and given: the upper limit is the forward NTC, the lower is minus the backward NTC
 abbrev pub plain_upper : (Sheet → Formula) → Sheet → ℤ → ℤ

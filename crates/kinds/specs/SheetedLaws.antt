@@ -1,16 +1,18 @@
 -- A border of our kinds keeps the laws of a border.
-use Rattle.std.specs.Prelude.{◌≡◌, ℕ, ◌≤◌, length, ℤ, pos, ◌+ℤ◌, ◌-ℤ◌, neg_ℤ, ◌≤ℤ◌, ◌<ℤ◌, ◌⊎◌, refl}
-use Rattle.std.proofs.Common.{sym, subst, inl, inr, arith}
+use Rattle.std.specs.Prelude.{◌≡◌, ℕ, zero, suc, ◌≤◌, cond, List, [], ◌∷◌, map, length, slice_index_or, ℤ, pos, ◌+ℤ◌, ◌-ℤ◌, neg_ℤ, ◌≤ℤ◌, ◌<ℤ◌, ◌⊎◌, refl}
+use Rattle.std.proofs.Common.{sym, ◌∙◌, subst, inl, inr, arith}
 use Rattle.std.specs.Int.{int_max}
 use Rattle.std.proofs.lemmas.Int.{ints, clamps}
-use Rattle.borders.specs.Day.{Schedule, Period, figure_in, moved}
-use Rattle.borders.specs.Days.{same_or_not, changed_here, changed_other}
+use Rattle.std.proofs.lemmas.List.{length-map}
+use Rattle.borders.specs.Day.{Schedule, Period, place, figure_in, moved}
+use Rattle.borders.specs.Days.{by_day, same_or_not, changed_here, changed_other}
 use Rattle.borders.specs.Eased.{can_period, can_room}
 use Rattle.borders.specs.Limits.{Limited}
 use Rattle.borders.specs.Border.{Stated, CanTake, overrun, took}
 use Rattle.borders.specs.Laws.{Known}
 use Rattle.kinds.specs.declared.sheeted.Sheeted.{Sheeted}
-use Rattle.kinds.specs.Sheets.{sheeted}
+use Rattle.kinds.specs.declared.limits.Limits.{Limits}
+use Rattle.kinds.specs.Sheets.{lowers, uppers, sheeted}
 
 -- what a border of ours keeps
 pub record Kept (flows lower upper : Schedule) : Type 0 where
@@ -21,8 +23,27 @@ pub record Kept (flows lower upper : Schedule) : Type 0 where
   pub top : (p : ℤ) → (neg_ℤ (pos 50000) ≤ℤ figure_in upper p) × (figure_in upper p ≤ℤ pos 30000)
   pub bottom : (p : ℤ) → (neg_ℤ (pos 30000) ≤ℤ figure_in lower p) × (figure_in lower p ≤ℤ pos 50000)
 
-pub kept_of : {K : Type 0} (b : Sheeted K) → Kept b.flows b.lower b.upper
-kept_of b = record { long = b.long; rows = b.rows; least = b.least; most = b.most; top = b.top; bottom = b.bottom }
+-- what holds of each entry of a row, and of 0, holds of the figure of each period
+pub figures_keep : {X : Type 0} (P : ℤ → Type 0) (f : X → ℤ) → P (pos 0) → ((x : X) → P (f x)) → (xs : List X) (p : ℤ) → P (figure_in (map f xs) p)
+unfolding figure_in
+figures_keep {X} P f zero_holds holds xs p =
+    by_day (length (map f xs)) p (λ t. P (cond t (slice_index_or (map f xs) (place p) (pos 0)) (pos 0))) (λ _. at xs (place p)) (λ _. zero_holds)
+  where
+    at : (ys : List X) (k : ℕ) → P (slice_index_or (map f ys) k (pos 0))
+    at [] k = zero_holds
+    at (y ∷ ys) zero = holds y
+    at (y ∷ ys) (suc k) = at ys k
+
+pub kept_of : {K : Type 0} (b : Sheeted K) → Kept b.flows (lowers b.limits) (uppers b.limits)
+kept_of b =
+    record {
+      long = b.long;
+      rows = (length-map b.limits (λ (l : Limits). l.lower) ∙ b.rows, length-map b.limits (λ (l : Limits). l.upper) ∙ b.rows);
+      least = b.within.least;
+      most = b.within.most;
+      top = figures_keep (λ x. (neg_ℤ (pos 50000) ≤ℤ x) × (x ≤ℤ pos 30000)) (λ (l : Limits). l.upper) (omega (arith, ints), omega (arith, ints)) (λ l. (l.limited.top_least, l.limited.top_most)) b.limits;
+      bottom = figures_keep (λ x. (neg_ℤ (pos 30000) ≤ℤ x) × (x ≤ℤ pos 50000)) (λ (l : Limits). l.lower) (omega (arith, ints), omega (arith, ints)) (λ l. (l.limited.bottom_least, l.limited.bottom_most)) b.limits;
+    }
 
 pub limited : (flows lower upper : Schedule) → Kept flows lower upper → (p : ℤ) → Limited (figure_in lower p) (figure_in upper p)
 limited flows lower upper k p = record { top_most = (k.top p).1; top_least = (k.top p).0; bottom_least = (k.bottom p).0; bottom_most = (k.bottom p).1 }

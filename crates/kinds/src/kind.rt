@@ -1,15 +1,16 @@
 //! What a kind makes of a sheet.
-ghost use Rattle.std.specs.Prelude.{◌≡◌, Bool, true, ℤ, neg_ℤ};
-ghost use Rattle.equations.specs.Capacities.{net_capacity};
-ghost use Rattle.equations.specs.declared.capacity.Direction.TheVariants.{Forward as Onward, Backward as Return};
+ghost use Rattle.std.specs.Prelude.{◌≡◌, Bool, true, ◌&&◌, ℤ};
+ghost use Rattle.equations.specs.Capacities.{limit_of};
 ghost use Rattle.equations.specs.Ranges.{Near};
 ghost use Rattle.borders.specs.declared.Sheet.{Sheet as Figures};
+ghost use Rattle.borders.specs.Border.{side_of};
 ghost use Rattle.borders.specs.Limits.{Limited};
-ghost use Rattle.kinds.specs.Kinds.{none, amount, two_used, one_used, all_used, plain_upper, plain_lower, cable_test, cable_formula, settlement_test, settlement_formula, given_test, given_formula, line_ranges, line_test, line_upper, line_lower};
+ghost use Rattle.kinds.specs.Kinds.{none, limit_toward, side_within, plain_upper, plain_lower, cable_test, cable_formula, settlement_test, settlement_formula, given_test, given_formula, line_ranges, line_test, line_upper, line_lower};
 ghost use Rattle.kinds.specs.Passed.{cable_limited, settlement_limited, given_limited, line_limited};
 
+use crate::limits::lies;
 use borders::Sheet;
-use equations::{Direction, Formula, Side, cut, limit, uncut_ntc};
+use equations::{Direction, Formula, OneWay, Side};
 
 /// A kind of border: which sheets pass its test, and the limits that a sheet gives, with the flow at its acceptance.
 pub trait Kind {
@@ -22,63 +23,70 @@ pub trait Kind {
     fn accepts(&self, sheet: &Sheet, flow: i32) -> bool
         ensures { result ≡ test sheet.now flow };
 
-    fn upper(&self, sheet: &Sheet, flow: i32) -> i64
-        ensures { result ≡ highest sheet.now flow };
-
-    fn lower(&self, sheet: &Sheet, flow: i32) -> i64
-        ensures { result ≡ lowest sheet.now flow };
+    /// The limit that a sheet gives: the upper one forward, the lower one backward.
+    fn limit(&self, direction: Direction, sheet: &Sheet, flow: i32) -> i64
+        ensures { result ≡ limit_toward lowest highest direction sheet.now flow };
 
     // the limits of a sheet that passes lie within bounds
     ghost bounded: { (t : Figures) (a : ℤ) → Near 30000 a → test t a ≡ true → Limited (lowest t a) (highest t a) };
 }
 
+// The limit that a formula gives: the flow with what the formula leaves available that way.
+fn limit_by(formula: Formula, direction: Direction, sheet: &Sheet, flow: i32) -> i64
+    ensures { result ≡ limit_of formula direction (side_of sheet.now direction) flow sheet.now.power_flow }
+{
+    OneWay {
+        formula,
+        direction,
+        side: sheet.side(direction),
+    }
+    .limit(flow, sheet.power_flow)
+}
+
+// The most of each figure of a side, 0 where a kind does not use it.
+const FIRST: Side = Side {
+    first: 20_000,
+    second: 0,
+    margin: 0,
+    reserve: 0,
+};
+
+const FIRST_AND_SECOND: Side = Side {
+    second: 20_000,
+    ..FIRST
+};
+
+const ALL: Side = Side {
+    margin: 2_000,
+    reserve: 20_000,
+    ..FIRST_AND_SECOND
+};
+
+// Whether each figure of a side is 0 to its most.
+fn side_fits(side: &Side, most: &Side) -> bool
+    ensures { result ≡ side_within most.now side.now }
+{
+    lies(0, side.first, most.first)
+        & lies(0, side.second, most.second)
+        & lies(0, side.margin, most.margin)
+        & lies(0, side.reserve, most.reserve)
+}
+
+// Whether each figure of both sides is 0 to its most.
+fn sides_fit(sheet: &Sheet, most: &Side) -> bool
+    ensures { result ≡ (side_within most.now sheet.now.forward && side_within most.now sheet.now.backward) }
+{
+    side_fits(&sheet.forward, most) && side_fits(&sheet.backward, most)
+}
+
+// Whether what a kind does not use is 0.
 fn unused(x: i32) -> bool
     ensures { result ≡ none x }
 {
-    (0 <= x) & (x <= 0)
+    lies(0, x, 0)
 }
 
-fn in_amounts(x: i32) -> bool
-    ensures { result ≡ amount x }
-{
-    (0 <= x) & (x <= 20_000)
-}
-
-fn uses_two(side: &Side) -> bool
-    ensures { result ≡ two_used side.now }
-{
-    in_amounts(side.first) & in_amounts(side.second) & unused(side.margin) & unused(side.reserve)
-}
-
-fn uses_one(side: &Side) -> bool
-    ensures { result ≡ one_used side.now }
-{
-    in_amounts(side.first) & unused(side.second) & unused(side.margin) & unused(side.reserve)
-}
-
-fn uses_all(side: &Side) -> bool
-    ensures { result ≡ all_used side.now }
-{
-    in_amounts(side.first)
-        & in_amounts(side.second)
-        & ((0 <= side.margin) & (side.margin <= 2_000))
-        & in_amounts(side.reserve)
-}
-
-// The limits of the kinds whose limits are their net capacities.
-fn forward_capacity(formula: Formula, sheet: &Sheet) -> i64
-    ensures { result ≡ net_capacity formula Onward sheet.now.forward }
-{
-    cut(uncut_ntc(formula, Direction::Forward, &sheet.forward))
-}
-
-fn minus_backward_capacity(formula: Formula, sheet: &Sheet) -> i64
-    ensures { result ≡ neg_ℤ (net_capacity formula Return sheet.now.backward) }
-{
-    -cut(uncut_ntc(formula, Direction::Backward, &sheet.backward))
-}
-
-#[derive(Clone, Copy)]
+#[derive(Clone, Copy, Default)]
 pub struct Cable;
 
 impl Kind for Cable {
@@ -91,22 +99,15 @@ impl Kind for Cable {
     ghost bounded = { λ t a near pass. cable_limited t a pass };
 
     fn accepts(&self, sheet: &Sheet, _flow: i32) -> bool {
-        uses_two(&sheet.forward)
-            & uses_two(&sheet.backward)
-            & unused(sheet.power_flow)
-            & unused(sheet.circuits)
+        sides_fit(sheet, &FIRST_AND_SECOND) && unused(sheet.power_flow) && unused(sheet.circuits)
     }
 
-    fn upper(&self, sheet: &Sheet, _flow: i32) -> i64 {
-        forward_capacity(Formula::Cable, sheet)
-    }
-
-    fn lower(&self, sheet: &Sheet, _flow: i32) -> i64 {
-        minus_backward_capacity(Formula::Cable, sheet)
+    fn limit(&self, direction: Direction, sheet: &Sheet, flow: i32) -> i64 {
+        limit_by(Formula::Cable, direction, sheet, flow)
     }
 }
 
-#[derive(Clone, Copy)]
+#[derive(Clone, Copy, Default)]
 pub struct Settlement;
 
 impl Kind for Settlement {
@@ -119,22 +120,17 @@ impl Kind for Settlement {
     ghost bounded = { λ t a near pass. settlement_limited t a };
 
     fn accepts(&self, sheet: &Sheet, _flow: i32) -> bool {
-        uses_two(&sheet.forward)
-            & uses_two(&sheet.backward)
-            & unused(sheet.power_flow)
-            & ((1 <= sheet.circuits) & (sheet.circuits <= 2))
+        sides_fit(sheet, &FIRST_AND_SECOND)
+            && unused(sheet.power_flow)
+            && lies(1, sheet.circuits, 2)
     }
 
-    fn upper(&self, sheet: &Sheet, _flow: i32) -> i64 {
-        forward_capacity(Formula::Settlement(sheet.circuits), sheet)
-    }
-
-    fn lower(&self, sheet: &Sheet, _flow: i32) -> i64 {
-        minus_backward_capacity(Formula::Settlement(sheet.circuits), sheet)
+    fn limit(&self, direction: Direction, sheet: &Sheet, flow: i32) -> i64 {
+        limit_by(Formula::Settlement(sheet.circuits), direction, sheet, flow)
     }
 }
 
-#[derive(Clone, Copy)]
+#[derive(Clone, Copy, Default)]
 pub struct Given;
 
 impl Kind for Given {
@@ -147,32 +143,22 @@ impl Kind for Given {
     ghost bounded = { λ t a near pass. given_limited t a pass };
 
     fn accepts(&self, sheet: &Sheet, _flow: i32) -> bool {
-        uses_one(&sheet.forward)
-            & uses_one(&sheet.backward)
-            & unused(sheet.power_flow)
-            & unused(sheet.circuits)
+        sides_fit(sheet, &FIRST) && unused(sheet.power_flow) && unused(sheet.circuits)
     }
 
-    fn upper(&self, sheet: &Sheet, _flow: i32) -> i64 {
-        forward_capacity(Formula::Given, sheet)
-    }
-
-    fn lower(&self, sheet: &Sheet, _flow: i32) -> i64 {
-        minus_backward_capacity(Formula::Given, sheet)
+    fn limit(&self, direction: Direction, sheet: &Sheet, flow: i32) -> i64 {
+        limit_by(Formula::Given, direction, sheet, flow)
     }
 }
 
-#[derive(Clone, Copy)]
+#[derive(Clone, Copy, Default)]
 pub struct Line;
 
 // The ranges of a line's sheet.
 fn line_in_ranges(sheet: &Sheet) -> bool
     ensures { result ≡ line_ranges sheet.now }
 {
-    uses_all(&sheet.forward)
-        & uses_all(&sheet.backward)
-        & ((-20_000 <= sheet.power_flow) & (sheet.power_flow <= 20_000))
-        & unused(sheet.circuits)
+    sides_fit(sheet, &ALL) && lies(-20_000, sheet.power_flow, 20_000) && unused(sheet.circuits)
 }
 
 impl Kind for Line {
@@ -185,28 +171,12 @@ impl Kind for Line {
     ghost bounded = { λ t a near pass. line_limited t a near pass };
 
     fn accepts(&self, sheet: &Sheet, flow: i32) -> bool {
-        line_in_ranges(sheet)
-            & (self.upper(sheet, flow) <= 30_000)
-            & (-30_000 <= self.lower(sheet, flow))
+        let upper = self.limit(Direction::Forward, sheet, flow);
+        let lower = self.limit(Direction::Backward, sheet, flow);
+        line_in_ranges(sheet) & (upper <= 30_000) & (-30_000 <= lower)
     }
 
-    fn upper(&self, sheet: &Sheet, flow: i32) -> i64 {
-        limit(
-            Formula::Line,
-            Direction::Forward,
-            &sheet.forward,
-            flow,
-            sheet.power_flow,
-        )
-    }
-
-    fn lower(&self, sheet: &Sheet, flow: i32) -> i64 {
-        limit(
-            Formula::Line,
-            Direction::Backward,
-            &sheet.backward,
-            flow,
-            sheet.power_flow,
-        )
+    fn limit(&self, direction: Direction, sheet: &Sheet, flow: i32) -> i64 {
+        limit_by(Formula::Line, direction, sheet, flow)
     }
 }

@@ -2,6 +2,7 @@
 #![tactic(auto)]
 
 pub mod kind;
+mod limits;
 pub mod makes;
 pub mod sheeted;
 

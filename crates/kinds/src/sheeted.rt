@@ -1,49 +1,59 @@
 //! The one make of our kinds: a border whose limits follow the last sheet accepted for each period.
-ghost use Rattle.std.specs.Prelude.{◌≡◌, length, ℤ, pos, neg_ℤ, ◌≤ℤ◌, MatchOption};
-ghost use Rattle.borders.specs.Day.{Period, place, figure_in};
-ghost use Rattle.kinds.specs.Sheets.{stated_by, sheeted, idle};
+ghost use Rattle.std.specs.Prelude.{◌≡◌, true, length, MatchOption};
+ghost use Rattle.equations.specs.Ranges.{Near};
+ghost use Rattle.borders.specs.Day.{Period, place, Within};
+ghost use Rattle.kinds.specs.Sheets.{lowers, uppers, stated_by, sheeted, idle};
 
 use crate::Kind;
+use crate::limits::Limits;
 use borders::{Border, BorderFault, Sheet};
+use equations::Direction;
 
 /// How many periods a delivery day has.
 pub const PERIODS: usize = 24;
 
-/// A border of a kind, with flows and limits by period.
+/// A border of a kind: its schedule, and the limits of each period.
 #[derive(Drop)]
 pub struct Sheeted<K> {
     kind: K,
     flows: [i32; PERIODS],
-    lower: [i32; PERIODS],
-    upper: [i32; PERIODS],
+    limits: [Limits; PERIODS],
     ghost long: { length flows ≡ 24 },
-    ghost rows: { (length lower ≡ 24) × (length upper ≡ 24) },
-    ghost least: { (p : ℤ) → neg_ℤ (pos 30000) ≤ℤ figure_in flows p },
-    ghost most: { (p : ℤ) → figure_in flows p ≤ℤ pos 30000 },
-    ghost top: { (p : ℤ) → (neg_ℤ (pos 50000) ≤ℤ figure_in upper p) × (figure_in upper p ≤ℤ pos 30000) },
-    ghost bottom: { (p : ℤ) → (neg_ℤ (pos 30000) ≤ℤ figure_in lower p) × (figure_in lower p ≤ℤ pos 50000) },
+    ghost rows: { length limits ≡ 24 },
+    ghost within: { Within flows },
 }
 
 // Where the figures of a period stand.
 fn slot(period: i32) -> Option<usize>
     ensures { MatchOption result (Period 24 period → ⊥) (λ k. Period 24 period × (k ≡ place period)) }
 {
-    if period < 1 || period > PERIODS as i32 {
-        return None;
-    }
-    Some((period - 1) as usize)
+    let k = usize::try_from(period).ok()?.checked_sub(1)?;
+    (k < PERIODS).then_some(k)
 }
 
 impl<K: Kind> Sheeted<K> {
     /// A border of a kind with flows and limits 0.
     pub fn new(kind: K) -> Self
-        ensures { sheeted (stated_by K.Kind.test K.Kind.lowest K.Kind.highest) result.flows result.lower result.upper ≡ sheeted (stated_by K.Kind.test K.Kind.lowest K.Kind.highest) idle idle idle }
+        ensures { sheeted (stated_by K.Kind.test K.Kind.lowest K.Kind.highest) result.flows (lowers result.limits) (uppers result.limits) ≡ sheeted (stated_by K.Kind.test K.Kind.lowest K.Kind.highest) idle idle idle }
     {
+        let none = Limits { lower: 0, upper: 0 };
         Sheeted {
             kind,
             flows: [0; PERIODS],
-            lower: [0; PERIODS],
-            upper: [0; PERIODS],
+            limits: [none; PERIODS],
+        }
+    }
+
+    // The limits that a sheet gives which passes at a flow.
+    fn limits_by(&self, sheet: &Sheet, flow: i32) -> Limits
+        requires near { Near 30000 flow }
+        requires passes { K.Kind.test sheet.now flow ≡ true }
+        ensures lower { result.lower ≡ K.Kind.lowest sheet.now flow }
+        ensures upper { result.upper ≡ K.Kind.highest sheet.now flow }
+    {
+        Limits {
+            lower: self.kind.limit(Direction::Backward, sheet, flow) as i32,
+            upper: self.kind.limit(Direction::Forward, sheet, flow) as i32,
         }
     }
 }
@@ -51,9 +61,9 @@ impl<K: Kind> Sheeted<K> {
 impl<K: Kind> Border for Sheeted<K> {
     ghost use Rattle.kinds.specs.SheetedLaws.{kept_of, sheeted_known};
 
-    ghost meaning = { λ b. sheeted (stated_by K.Kind.test K.Kind.lowest K.Kind.highest) b.flows b.lower b.upper };
+    ghost meaning = { λ b. sheeted (stated_by K.Kind.test K.Kind.lowest K.Kind.highest) b.flows (lowers b.limits) (uppers b.limits) };
 
-    ghost known = { λ b. sheeted_known (stated_by K.Kind.test K.Kind.lowest K.Kind.highest) b.flows b.lower b.upper (kept_of b) };
+    ghost known = { λ b. sheeted_known (stated_by K.Kind.test K.Kind.lowest K.Kind.highest) b.flows (lowers b.limits) (uppers b.limits) (kept_of b) };
 
     fn periods(&self) -> i32 {
         PERIODS as i32
@@ -66,16 +76,9 @@ impl<K: Kind> Border for Sheeted<K> {
         }
     }
 
-    fn forward_margin(&self, period: i32) -> i32 {
+    fn margin(&self, direction: Direction, period: i32) -> i32 {
         match slot(period) {
-            Some(k) => self.upper[k] - self.flows[k],
-            None => 0,
-        }
-    }
-
-    fn backward_margin(&self, period: i32) -> i32 {
-        match slot(period) {
-            Some(k) => self.flows[k] - self.lower[k],
+            Some(k) => self.limits[k].margin(direction, self.flows[k]),
             None => 0,
         }
     }
@@ -88,22 +91,17 @@ impl<K: Kind> Border for Sheeted<K> {
     }
 
     fn admits(&self, schedule: &[i32]) -> bool {
-        if schedule.len() != PERIODS {
-            return false;
-        }
-        for k in 0..PERIODS {
-            let flow = schedule[k];
-            if flow < -30_000 || flow > 30_000 || flow < self.lower[k] || flow > self.upper[k] {
-                return false;
-            }
-        }
-        true
+        schedule.len() == PERIODS
+            && schedule
+                .iter()
+                .zip(&self.limits)
+                .all(|(flow, limits)| limits.admit(*flow))
     }
 
     fn take(&mut self, period: i32, m: i32) -> Result<(), BorderFault> {
         self.may_take(period, m)?;
         if let Some(k) = slot(period) {
-            self.flows[k] = self.flows[k] + m;
+            self.flows[k] += m;
         }
         Ok(())
     }
@@ -112,9 +110,7 @@ impl<K: Kind> Border for Sheeted<K> {
         if !self.admits(schedule) {
             return Err(BorderFault::Adopt);
         }
-        let mut flows = [0; PERIODS];
-        flows.copy_from_slice(schedule);
-        self.flows = flows;
+        self.flows.copy_from_slice(schedule);
         Ok(())
     }
 
@@ -126,8 +122,7 @@ impl<K: Kind> Border for Sheeted<K> {
         if !self.kind.accepts(sheet, flow) {
             return Err(BorderFault::Reassess);
         }
-        self.lower[k] = self.kind.lower(sheet, flow) as i32;
-        self.upper[k] = self.kind.upper(sheet, flow) as i32;
+        self.limits[k] = self.limits_by(sheet, flow);
         Ok(())
     }
 }

@@ -2,7 +2,7 @@
 #![tactic(auto)]
 
 ghost use Rattle.std.specs.Prelude.{◌≡◌, ◌≤◌, [], length};
-ghost use Rattle.logs.specs.Entries.{entries, capacity_of, record_at, Entered, Changed};
+ghost use Rattle.logs.specs.Entries.{capacity_of, record_at};
 
 /// The most records that a log keeps, however long the memory is.
 pub const MOST: usize = 65_536;
@@ -21,9 +21,11 @@ pub struct Log<'a, T> {
 pub struct LogFull;
 
 impl<'a, T: Copy> Log<'a, T> {
+    ghost use Rattle.logs.specs.Logs.{memory, records, SameMemory, Entered, Changed};
+
     /// An empty log in the memory given.
     pub fn new(slots: &'a mut [T]) -> Log<'a, T>
-        ensures empty { (entries result.slots.now result.count ≡ []) × (result.slots.now ≡ slots.old) }
+        ensures empty { (records result ≡ []) × (memory result ≡ slots.old) }
         ensures lent { result.slots.ghost_name ≡ slots.entry.ghost_name }
     {
         Log { slots, count: 0 }
@@ -31,26 +33,25 @@ impl<'a, T: Copy> Log<'a, T> {
 
     /// How many records there are.
     pub fn count(&self) -> usize
-        ensures { result ≡ length (entries self.now.slots.now self.now.count) }
+        ensures { result ≡ length (records self.now) }
     {
         self.count
     }
 
     /// How many records there is place for in all.
     pub fn capacity(&self) -> usize
-        ensures { result ≡ capacity_of self.now.slots.now }
+        ensures { result ≡ capacity_of (memory self.now) }
     {
-        let slots: &[T] = &*self.slots;
-        slots.len().min(MOST)
+        self.slots.len().min(MOST)
     }
 
     /// Enters a record as the last, and tells the new count; refused where there is no place left.
     pub fn enter(&mut self, item: T) -> Result<usize, LogFull>
-        ensures answer { Entered self.old.slots.now self.old.count item result self.new.slots.now self.new.count }
-        ensures lent { self.new.slots.ghost_name ≡ self.old.slots.ghost_name }
+        ensures answer { Entered self.old item result self.new }
+        ensures lent { SameMemory self.old self.new }
     {
         let n = self.count;
-        if n >= self.slots.len() || n >= MOST {
+        if n >= self.capacity() {
             return Err(LogFull);
         }
         self.slots[n] = item;
@@ -60,26 +61,23 @@ impl<'a, T: Copy> Log<'a, T> {
 
     /// The record with a number, counted from 1; none where there is no such record.
     pub fn read(&self, number: usize) -> Option<T>
-        ensures { result ≡ record_at (entries self.now.slots.now self.now.count) number }
+        ensures { result ≡ record_at (records self.now) number }
     {
-        if number < 1 || number > self.count {
-            return None;
-        }
-        let place = number - 1;
-        let slots: &[T] = &*self.slots;
-        Some(slots[place])
+        self.slots[..self.count]
+            .get(number.checked_sub(1)?)
+            .copied()
     }
 
     /// Puts a record in the place of the one with a number, and tells whether there is one.
+    #[tactic(auto, using(crate::proofs::Kept::kept))]
     pub fn change(&mut self, number: usize, item: T) -> bool
-        ensures answer { Changed self.old.slots.now self.old.count number item result self.new.slots.now self.new.count }
-        ensures lent { self.new.slots.ghost_name ≡ self.old.slots.ghost_name }
+        ensures answer { Changed self.old number item result self.new }
+        ensures lent { SameMemory self.old self.new }
     {
-        if number < 1 || number > self.count {
-            return false;
+        let found = (1..=self.count).contains(&number);
+        if found {
+            self.slots[number - 1] = item;
         }
-        let i = number - 1;
-        self.slots[i] = item;
-        true
+        found
     }
 }

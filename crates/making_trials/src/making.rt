@@ -2,7 +2,7 @@
 use book::MakingFault;
 use borders::bank::Bank;
 use borders::{Border, NoBorders, Pair, Sheet};
-use equations::Side;
+use equations::{Side, Told};
 use kinds::{Given, Made, Sheeted};
 use region::Region;
 use std::test::Fail;
@@ -24,29 +24,34 @@ fn sheet() -> Sheet {
 }
 
 // A given border, which has a flow in a period if one is named.
-fn given(period: i32) -> Result<Sheeted<Given>, Fail> {
+fn given(period: Option<i32>) -> Result<Sheeted<Given>, Fail> {
     let mut border = Sheeted::<Given>::make();
-    if period > 0 {
+    if let Some(period) = period {
         border.reassess(&sheet(), period)?;
         border.take(period, -5)?;
     }
     Ok(border)
 }
 
-// The parents given, the periods in which borders 1 and 2 have a flow (0 for none), and the fault with its place.
+// The parents given, the periods in which borders 1 and 2 have a flow, and the fault with its place.
 #[test]
 fn faults_of_making(rt: HostRuntime) -> Result<(), Fail> {
-    let table: [(&[usize], i32, i32, Option<(MakingFault, i32)>); 10] = [
-        (&[0, 0], 0, 0, None),
-        (&[0, 1], 0, 0, None),
-        (&[], 0, 0, Some((MakingFault::Count, 0))),
-        (&[0], 0, 0, Some((MakingFault::Count, 0))),
-        (&[0, 1, 2], 1, 1, Some((MakingFault::Count, 0))),
-        (&[5, 5, 5], 1, 1, Some((MakingFault::Count, 0))),
-        (&[1, 2], 1, 1, Some((MakingFault::Parent(1), 1))),
-        (&[0, 2], 24, 0, Some((MakingFault::Parent(2), 2))),
-        (&[0, 1], 24, 1, Some((MakingFault::Flow(1), 1))),
-        (&[0, 1], 0, 24, Some((MakingFault::Flow(2), 2))),
+    let table: [(
+        &[usize],
+        Option<i32>,
+        Option<i32>,
+        Option<(MakingFault, i32)>,
+    ); 10] = [
+        (&[0, 0], None, None, None),
+        (&[0, 1], None, None, None),
+        (&[], None, None, Some((MakingFault::Count, 0))),
+        (&[0], None, None, Some((MakingFault::Count, 0))),
+        (&[0, 1, 2], Some(1), Some(1), Some((MakingFault::Count, 0))),
+        (&[5, 5, 5], Some(1), Some(1), Some((MakingFault::Count, 0))),
+        (&[1, 2], Some(1), Some(1), Some((MakingFault::Parent(1), 1))),
+        (&[0, 2], Some(24), None, Some((MakingFault::Parent(2), 2))),
+        (&[0, 1], Some(24), Some(1), Some((MakingFault::Flow(1), 1))),
+        (&[0, 1], None, Some(24), Some((MakingFault::Flow(2), 2))),
     ];
     for (parents, one, two, expected) in table {
         let bank = Pair {
@@ -63,12 +68,15 @@ fn faults_of_making(rt: HostRuntime) -> Result<(), Fail> {
                     return Err(Fail::new("region refused"));
                 };
                 assert_eq!(rt; unmade.fault, fault);
-                let told = unmade.fault.told();
-                assert_eq!(rt; told.number, 8);
-                assert_eq!(rt; told.place, place);
-                assert_eq!(rt; told.period, 0);
+                let told = Told {
+                    number: 8,
+                    place,
+                    period: 0,
+                };
+                assert_eq!(rt; unmade.fault.told(), told);
                 let came_back: Pair<Sheeted<Given>, Pair<Sheeted<Given>, NoBorders>> = unmade.bank;
-                assert_eq!(rt; came_back.first.flow(one), if one > 0 { -5 } else { 0 });
+                let (period, flow) = one.map_or((0, 0), |period| (period, -5));
+                assert_eq!(rt; came_back.first.flow(period), flow);
             }
         }
     }
@@ -82,6 +90,6 @@ fn no_borders_at_all(rt: HostRuntime) -> Result<(), Fail> {
         Err(unmade) => {
             assert_eq!(rt; unmade.fault, MakingFault::Count);
             Ok(())
-        },
+        }
     }
 }

@@ -4,15 +4,11 @@
 use margin_file::{answer, most_bytes};
 use std::io::{Read, Write};
 
-// The line is complete before any of it is written.
-fn run(rt: &HostRuntime) -> anyhow::Result<()> {
+fn main(rt: HostRuntime) -> anyhow::Result<()> {
     let mut file = Vec::new(rt.alloc());
     rt.stdin().take(most_bytes()).read_to_end(&mut file)?;
-    let line = answer(rt.alloc(), file.as_slice())?;
+    // The line is complete before any of it is written.
+    let line = answer(rt.alloc(), &file)?;
     rt.stdout().write_all(line.as_bytes())?;
     Ok(())
-}
-
-fn main(rt: HostRuntime) -> anyhow::Result<()> {
-    run(&rt)
 }

@@ -1,5 +1,5 @@
 -- Lists of lines that are the same up to a line of more than 200 bytes have the same answers.
-use Rattle.std.proofs.Common.{◌≡◌, ℕ, suc, ◌<◌, true, ◌⊎◌, List, [], ◌∷◌, length, get_or, take, ℤ, pos, Some, Ok, Err, Result, sym, refl, ap, ◌∙◌, inl, inr, arith}
+use Rattle.std.proofs.Common.{◌≡◌, ℕ, zero, suc, ◌<◌, true, ◌⊎◌, List, [], ◌∷◌, length, get_or, take, ℤ, Some, Ok, Err, Result, sym, refl, ap, ◌∙◌, inl, inr, arith}
 use Rattle.margin_file.specs.declared.fault.SampleFault.{SampleFault}
 use Rattle.margin_file.specs.declared.fault.SampleFault.TheVariants.{Unreadable, Refused, Memory}
 use Rattle.margin_file.specs.declared.sample.Sample.{Sample}
@@ -43,21 +43,25 @@ alike_long l m ls ms p q = inr (0, record { left_within = omega arith; right_wit
 long_unreadable : (l : List ℕ) (n : ℤ) → 200 < length l → Writes l n → ⊥
 long_unreadable l n long w = omega (arith, writes_short l n w)
 
+-- a list of lines that are all written has none that is long
+none_long : (ls : List (List ℕ)) (ds : List ℤ) (k : ℕ) → k < length ls → 200 < length (get_or ls k []) → Written ls ds → ⊥
+none_long [] ds k within long w = absurd (omega arith)
+none_long (l ∷ ls) [] k within long w = w
+none_long (l ∷ ls) (d ∷ ds) zero within long w = long_unreadable l d long w.0
+none_long (l ∷ ls) (d ∷ ds) (suc k) within long w = none_long ls ds k (omega arith) long w.1
+
 long_too_long : (l : List ℕ) → 200 < length l → too_long l ≡ true
 long_too_long l long = lt-ltb 200 (length l) long
 
 module _ (ls ms : List (List ℕ)) (k : ℕ) (p : PartsAt ls ms k) where
   -- so the lines are not all written
   none_written : (ds : List ℤ) → Written ls ds → ⊥
-  none_written ds w = long_unreadable (get_or ls k []) (get_or ds k (pos 0)) p.left_long (w.each k p.left_within)
+  none_written ds w = none_long ls ds k p.left_within p.left_long w
 
   -- and the first that writes no number comes no later
   no_later : (j : ℕ) → FirstUnreadable ls j → k < j → ⊥
   no_later j f h =
-      let w = f.earlier.1 in
-      let inside : k < length (take j ls) = simp length-take (omega (arith, p.left_within)) in
-      let e = get_or-take j ls k [] h in
-      long_unreadable (get_or ls k []) (get_or f.earlier.0 k (pos 0)) p.left_long (rw e at (w.each k inside))
+      none_long (take j ls) f.earlier.0 k (simp length-take (omega (arith, p.left_within))) (rw (get_or-take j ls k [] h) p.left_long) f.earlier.1
 
   moved_before : (j : ℕ) → j < k → FirstUnreadable ls j → FirstUnreadable ms j × (too_long (get_or ls j []) ≡ too_long (get_or ms j []))
   moved_before j h f =

@@ -1,12 +1,14 @@
 -- A file that is cut where its lines must have ended, or one of them is long.
-use Rattle.std.proofs.Common.{◌≡◌, ℕ, zero, suc, ◌+◌, ◌-◌, ◌*◌, ◌<◌, ◌≤◌, List, [], ◌∷◌, length, get_or, take, drop, Result, sym, refl, ap, ◌∙◌, inl, inr, arith, lit≤}
+use Rattle.std.proofs.Common.{◌≡◌, ℕ, zero, suc, ◌+◌, ◌-◌, ◌*◌, ◌<◌, ◌≤◌, eqb, List, [], ◌∷◌, length, get_or, take, drop, Result, sym, refl, ap, ◌∙◌, inl, inr, arith, lit≤}
 use Rattle.margin_file.specs.declared.fault.SampleFault.{SampleFault}
 use Rattle.margin_file.specs.declared.sample.Sample.{Sample}
 use Rattle.margin_file.specs.Cuts.{Enough}
 use Rattle.margin_file.specs.Samples.{Answer}
 use Rattle.margin_file.proofs.Alike.{Alike, alike_cons, alike_long, alike_turned, same_answer}
 use Rattle.std.proofs.lemmas.List.{drop-take, get_or-take, length-take, length-take-le, take-take}
-use Rattle.std.proofs.lemmas.Bool.{cases_eq, cases_lt}
+use Rattle.std.proofs.lemmas.Bool.{cases_lt, eqb-false, eqb-true}
+use Rattle.std.proofs.lemmas.List.Sums.{fails_before_first, passes_at_first, prefix_len-le-length}
+use Rattle.std.specs.List.{position_or_len}
 use Rattle.text.proofs.LineLaws.{lines_first}
 use Rattle.text.specs.Lines.{lines}
 
@@ -16,19 +18,12 @@ record Ends (bs : List ℕ) (n : ℕ) : Type 0 where
   before : (k : ℕ) → k < n → get_or bs k 0 ≡ 10 → ⊥
   found : n < length bs → get_or bs n 0 ≡ 10
 
-ends_behind : (b : ℕ) (bs : List ℕ) (n : ℕ) → (b ≡ 10 → ⊥) → Ends bs n → Ends (b ∷ bs) (suc n)
-ends_behind b bs n other e = record { within = omega (arith, e.within); before = earlier; found = λ h. e.found (omega arith) }
-  where
-    earlier : (k : ℕ) → k < suc n → get_or (b ∷ bs) k 0 ≡ 10 → ⊥
-    earlier zero h is = other is
-    earlier (suc k) h is = e.before k (omega arith) is
-
-ends : (bs : List ℕ) → (n : ℕ) × Ends bs n
-ends [] = (0, record { within = omega arith; before = λ k h. absurd (omega arith); found = λ h. absurd (omega arith) })
-ends (b ∷ bs) = elim (cases_eq b 10) [
-  | inl e ↦ (0, record { within = omega arith; before = λ k h. absurd (omega arith); found = λ h. e })
-  | inr other ↦ let r = ends bs in (suc r.0, ends_behind b bs r.0 other r.1)
-]
+ends : (bs : List ℕ) → Ends bs (position_or_len (λ b. eqb b 10) bs)
+ends bs = record {
+  within = prefix_len-le-length _ bs;
+  before = λ k below. eqb-false _ 10 (fails_before_first (λ b. eqb b 10) bs k 0 below);
+  found = λ short. eqb-true _ 10 (passes_at_first (λ b. eqb b 10) bs 0 short);
+}
 
 ends_first : (bs : List ℕ) (n : ℕ) → 0 < length bs → Ends bs n → lines bs ≡ take n bs ∷ lines (drop (suc n) bs)
 ends_first bs n some e = lines_first bs n some e.within e.before e.found
@@ -94,8 +89,7 @@ alike_cut zero bs cut room = inl refl
 alike_cut (suc m) [] zero room = inl refl
 alike_cut (suc m) [] (suc cut) room = inl refl
 alike_cut (suc m) (b ∷ bs) cut room =
-    let e = ends (b ∷ bs) in
-    alike_step m cut (b ∷ bs) e.0 (omega arith) room e.1 (λ ds c h. alike_cut m ds c h)
+    alike_step m cut (b ∷ bs) _ (omega arith) room (ends (b ∷ bs)) (λ ds c h. alike_cut m ds c h)
 
 both_ways : (m cut : ℕ) → 201 * m ≤ cut → (bs : List ℕ) (r : Result Sample SampleFault) → (Answer (take m (lines (take cut bs))) r → Answer (take m (lines bs)) r) × (Answer (take m (lines bs)) r → Answer (take m (lines (take cut bs))) r)
 both_ways m cut room bs r =

@@ -1,5 +1,6 @@
 -- The deviations of a file, and the answer to it.
-use Rattle.std.specs.Prelude.{◌≡◌, ℕ, suc, ◌<◌, List, [], ◌∷◌, ◌++◌, length, take, ℤ, pos, Some, Ok, Err, Result, slice_index_or}
+use Rattle.std.specs.Prelude.{◌≡◌, ℕ, suc, ◌<◌, List, [], ◌∷◌, ◌++◌, length, take, ℤ, Some, Ok, Err, Result, slice_index_or}
+use Rattle.std.specs.List.{AllZip}
 use Rattle.equations.specs.Grounds.{Judged}
 use Rattle.equations.specs.Margins.{MarginOf, margin_refused}
 use Rattle.margin_file.specs.declared.fault.SampleFault.{SampleFault}
@@ -14,9 +15,8 @@ abbrev pub read_lines : List ℕ → List (List ℕ)
 read_lines content = take 100000 (lines content)
 
 -- the lines write the deviations ds, each line its own
-pub record Written (ls : List (List ℕ)) (ds : List ℤ) : Type 0 where
-  pub as_many : length ds ≡ length ls
-  pub each : (k : ℕ) → k < length ls → Writes (slice_index_or ls k []) (slice_index_or ds k (pos 0))
+abbrev pub Written : List (List ℕ) → List ℤ → Type 0
+Written ls ds = AllZip Writes ls ds
 
 -- a line that writes no number
 abbrev pub UnreadableLine : List ℕ → Type 0

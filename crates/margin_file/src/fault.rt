@@ -55,12 +55,12 @@ impl SampleFault {
     pub fn told(&self) -> Option<Refusal>
         ensures { result ≡ fault_told self.now }
     {
-        match self {
+        match *self {
             SampleFault::Unreadable { line, long } => Some(Refusal {
-                line: *line,
+                line,
                 told: Told {
                     number: 1,
-                    place: if *long { 0 } else { 1 },
+                    place: if long { 0 } else { 1 },
                     period: 0,
                 },
             }),

@@ -23,8 +23,7 @@ impl fmt::Display for Sample {
     ghost output = { λ s. Known (sample_text s) };
 
     fn fmt<W: fmt::Write>(&self, f: &mut fmt::Formatter<W>) -> fmt::Result {
-        let count = self.count;
-        let margin = self.margin;
+        let Sample { count, margin } = *self;
         write!(f, "ok,{count},{margin}")
     }
 }
@@ -33,13 +32,9 @@ impl fmt::Display for Sample {
 fn add_line(deviations: &mut Vec<i32>, line: u32, bytes: &[u8]) -> Result<(), SampleFault>
     ensures { MatchResult result (λ _. Added deviations.old.items bytes.now deviations.new.items) (λ e. LineFault line bytes.now e) }
 {
-    match number(bytes) {
-        Some(deviation) => deviations.push(deviation)?,
-        None => {
-            let long = too_long(bytes);
-            return Err(SampleFault::Unreadable { line, long });
-        }
-    }
+    let long = too_long(bytes);
+    let deviation = number(bytes).ok_or(SampleFault::Unreadable { line, long })?;
+    deviations.push(deviation)?;
     Ok(())
 }
 
@@ -48,11 +43,7 @@ fn read_deviations(heap: Global, file: &[u8]) -> Result<Vec<i32>, SampleFault>
     ensures { MatchResult result (λ v. Written (read_lines file.now) v.items) (λ e. FaultOf (read_lines file.now) e) }
 {
     let mut deviations = Vec::new(heap);
-    let mut lines = Lines::new(file);
-    for line in 1..=MOST_LINES {
-        let Some(bytes) = lines.next_line() else {
-            break;
-        };
+    for (line, bytes) in (1..=MOST_LINES).zip(Lines::new(file)) {
         add_line(&mut deviations, line, bytes)?;
     }
     Ok(deviations)
@@ -63,7 +54,7 @@ pub fn judge(heap: Global, file: &[u8]) -> Result<Sample, SampleFault>
     ensures { Answer (read_lines file.now) result }
 {
     let deviations = read_deviations(heap, file)?;
-    let margin = margin(deviations.as_slice())?;
+    let margin = margin(&deviations)?;
     Ok(Sample {
         count: deviations.len() as u32,
         margin,

@@ -1,5 +1,8 @@
+pub mod Refusals
+pub mod Periods
+pub mod Arrays
 pub mod Nets
 pub mod Assessing
 pub mod Staging
 pub mod Begins
-pub mod Kept
+pub mod Records

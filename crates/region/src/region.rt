@@ -1,8 +1,7 @@
 //! A region and the calls on it.
-use crate::ZoneTable;
+use crate::kept::KeptZones;
 use book::State;
 pub use making::Unmade;
-use zones::Tree;
 
 mod adopting;
 mod asking;
@@ -15,8 +14,7 @@ mod sheets;
 /// A region for one delivery day, over a bank of borders of any makes.
 #[derive(Drop)]
 pub struct Region<B> {
-    tree: Tree,
+    kept: KeptZones,
     bank: B,
-    table: ZoneTable,
     state: State,
 }

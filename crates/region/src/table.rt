@@ -1,25 +1,38 @@
 //! What a region keeps of its zones: one record for each zone and period.
 ghost use Rattle.std.specs.Prelude.{◌≡◌, ◌<◌, length, replicate, slice_index_or, slice_set};
-ghost use Rattle.book.specs.Limits.{staged_anew, limited_anew};
-ghost use Rattle.book.specs.Views.{Period, slot as slot_of, blank};
+ghost use Rattle.std.specs.Fn.{FnOnceReturnsAtMut};
+ghost use Rattle.book.specs.declared.ZoneRecord.{ZoneRecord as Kept};
+ghost use Rattle.book.specs.Views.{Period, slot as slot_of, record_in, blank};
 
-use book::{PERIOD_COUNT, ZoneLimit, ZoneRecord};
+use book::{PERIOD_COUNT, ZoneRecord};
+use zones::MOST_ZONES;
 
-// How many records there are: one for each period of each of 16 zones.
-const RECORDS: usize = 384;
+// How many records there are: one for each period of each zone that there may be.
+const RECORDS: usize = MOST_ZONES * PERIOD_COUNT;
+
+/// A zone and a period of the day, of which a table has a record.
+#[derive(Clone, Copy)]
+pub(crate) struct Slot {
+    pub(crate) zone: usize,
+    pub(crate) period: i32,
+    ghost few: { zone < 16 },
+    ghost in_day: { Period period },
+}
+
+impl Slot {
+    // Where the record stands.
+    fn index(self) -> usize
+        ensures value { result ≡ slot_of self.zone self.period }
+        ensures within { result < 384 }
+    {
+        self.zone * PERIOD_COUNT + (self.period - 1) as usize
+    }
+}
 
 /// One record for each zone and period.
 #[derive(Clone, Copy)]
 pub struct ZoneTable {
     records: [ZoneRecord; RECORDS],
-}
-
-// Where the record of a zone and period stands.
-fn slot(zone: usize, period: i32) -> usize
-    requires { (zone < 16) × (Period period) }
-    ensures { (result ≡ slot_of zone period) × (result < 384) }
-{
-    zone * PERIOD_COUNT + (period - 1) as usize
 }
 
 impl ZoneTable {
@@ -36,32 +49,22 @@ impl ZoneTable {
         }
     }
 
-    pub(crate) fn at(&self, zone: usize, period: i32) -> ZoneRecord
-        requires { (zone < 16) × (Period period) }
-        ensures { result ≡ slice_index_or self.now.records (slot_of zone period) blank }
+    pub(crate) fn at(&self, slot: Slot) -> ZoneRecord
+        ensures { result ≡ record_in self.now.records slot.zone slot.period }
     {
-        self.records[slot(zone, period)]
+        self.records[slot.index()]
     }
 
-    // Stages a position in the record of a zone and period, which is lent and changed in place.
-    pub(crate) fn stage(&mut self, zone: usize, period: i32, mw: i16)
-        requires { (zone < 16) × (Period period) }
+    // Lends the record of a zone and period, to be changed in place; all others stay.
+    pub(crate) fn change<F: FnOnce(&mut ZoneRecord)>(&mut self, slot: Slot, f: F)
+        requires { F.IsAlwaysCallable f }
         ensures many { length self.old.records ≡ 384 }
-        ensures changed { self.new.records ≡ slice_set self.old.records (slot_of zone period) (staged_anew (slice_index_or self.old.records (slot_of zone period) blank) mw) }
+        ensures changed { (kept : Kept)
+            × FnOnceReturnsAtMut F.FnOnce f (record_in self.old.records slot.zone slot.period) tt kept
+            × (self.new.records ≡ slice_set self.old.records (slot_of slot.zone slot.period) kept) }
     {
-        let i = slot(zone, period);
+        let i = slot.index();
         let record = &mut self.records[i];
-        record.stage(mw);
-    }
-
-    // Gives a limit likewise.
-    pub(crate) fn give_limit(&mut self, zone: usize, period: i32, limit: ZoneLimit)
-        requires { (zone < 16) × (Period period) }
-        ensures many { length self.old.records ≡ 384 }
-        ensures changed { self.new.records ≡ slice_set self.old.records (slot_of zone period) (limited_anew (slice_index_or self.old.records (slot_of zone period) blank) limit) }
-    {
-        let i = slot(zone, period);
-        let record = &mut self.records[i];
-        record.give_limit(limit);
+        f(record);
     }
 }

@@ -1,7 +1,7 @@
 // Every ground that these calls have, in every state.
-use crate::setting::{STATES, accepted, blank_deal, blank_sheet, in_state, sheet, small, told};
+use crate::setting::{Day, STATES, blank_deal, blank_sheet, in_state, sheet, small, tells};
 use book::Call;
-use logs::Log;
+use equations::Told;
 use std::process::Abort;
 use std::test::Fail;
 
@@ -58,13 +58,9 @@ fn calls_by_state(rt: HostRuntime) -> Result<(), Fail> {
         ),
     ];
     for (call, allowed, period) in table {
-        for i in 0..6 {
-            let expected = if allowed[i] {
-                (0, 0, 0)
-            } else {
-                (20, 0, period)
-            };
-            assert_eq!(rt; in_state(&rt, STATES[i], call)?, expected);
+        for (state, allowed) in STATES.iter().zip(&allowed) {
+            let expected = if *allowed { None } else { tells(20, 0, period) };
+            assert_eq!(rt; in_state(&rt, *state, call)?, expected);
         }
     }
     Ok(())
@@ -79,7 +75,7 @@ fn grounds_of_the_input(rt: HostRuntime) -> Result<(), Fail> {
                 period: 25,
                 sheet: sheet(-1, 0, 0),
             },
-            (2, 0, 25),
+            tells(2, 0, 25),
         ),
         (
             Call::Sheet {
@@ -87,7 +83,7 @@ fn grounds_of_the_input(rt: HostRuntime) -> Result<(), Fail> {
                 period: 1,
                 sheet: sheet(-1, 0, 0),
             },
-            (3, 0, 1),
+            tells(3, 0, 1),
         ),
         (
             Call::Sheet {
@@ -95,7 +91,7 @@ fn grounds_of_the_input(rt: HostRuntime) -> Result<(), Fail> {
                 period: 24,
                 sheet: sheet(0, 0, 0),
             },
-            (3, 3, 24),
+            tells(3, 3, 24),
         ),
         (
             Call::Sheet {
@@ -103,7 +99,7 @@ fn grounds_of_the_input(rt: HostRuntime) -> Result<(), Fail> {
                 period: 24,
                 sheet: sheet(20_001, 0, 5),
             },
-            (6, 2, 24),
+            tells(6, 2, 24),
         ),
         (
             Call::Limit {
@@ -112,7 +108,7 @@ fn grounds_of_the_input(rt: HostRuntime) -> Result<(), Fail> {
                 import: -1,
                 export: 0,
             },
-            (2, 0, 0),
+            tells(2, 0, 0),
         ),
         (
             Call::Limit {
@@ -121,7 +117,7 @@ fn grounds_of_the_input(rt: HostRuntime) -> Result<(), Fail> {
                 import: -1,
                 export: 0,
             },
-            (3, 3, 1),
+            tells(3, 3, 1),
         ),
         (
             Call::Limit {
@@ -130,7 +126,7 @@ fn grounds_of_the_input(rt: HostRuntime) -> Result<(), Fail> {
                 import: -1,
                 export: 0,
             },
-            (5, 0, 7),
+            tells(5, 0, 7),
         ),
         (
             Call::Limit {
@@ -139,7 +135,7 @@ fn grounds_of_the_input(rt: HostRuntime) -> Result<(), Fail> {
                 import: 0,
                 export: 30_001,
             },
-            (5, 0, 7),
+            tells(5, 0, 7),
         ),
         (
             Call::Position {
@@ -147,7 +143,7 @@ fn grounds_of_the_input(rt: HostRuntime) -> Result<(), Fail> {
                 period: -5,
                 mw: 30_001,
             },
-            (2, 0, -5),
+            tells(2, 0, -5),
         ),
         (
             Call::Position {
@@ -155,7 +151,7 @@ fn grounds_of_the_input(rt: HostRuntime) -> Result<(), Fail> {
                 period: 5,
                 mw: 30_001,
             },
-            (3, -1, 5),
+            tells(3, -1, 5),
         ),
         (
             Call::Position {
@@ -163,7 +159,7 @@ fn grounds_of_the_input(rt: HostRuntime) -> Result<(), Fail> {
                 period: 5,
                 mw: 30_001,
             },
-            (5, 0, 5),
+            tells(5, 0, 5),
         ),
         (
             Call::Position {
@@ -171,30 +167,30 @@ fn grounds_of_the_input(rt: HostRuntime) -> Result<(), Fail> {
                 period: 5,
                 mw: -30_001,
             },
-            (5, 0, 5),
+            tells(5, 0, 5),
         ),
         (
             Call::AskBorder {
                 border: 0,
                 period: 25,
             },
-            (2, 0, 25),
+            tells(2, 0, 25),
         ),
         (
             Call::AskBorder {
                 border: 0,
                 period: 24,
             },
-            (3, 0, 24),
+            tells(3, 0, 24),
         ),
         (
             Call::AskZone {
                 zone: 3,
                 period: -1,
             },
-            (2, 0, -1),
+            tells(2, 0, -1),
         ),
-        (Call::AskZone { zone: 3, period: 1 }, (3, 3, 1)),
+        (Call::AskZone { zone: 3, period: 1 }, tells(3, 3, 1)),
     ];
     for state in STATES {
         for (call, expected) in table {
@@ -207,20 +203,20 @@ fn grounds_of_the_input(rt: HostRuntime) -> Result<(), Fail> {
 #[test]
 fn power_flow_needs_a_result(rt: HostRuntime) -> Result<(), Fail> {
     let expected = [
-        (21, 2, 9),
-        (20, 0, 9),
-        (0, 0, 0),
-        (21, 2, 9),
-        (0, 0, 0),
-        (20, 0, 9),
+        tells(21, 2, 9),
+        tells(20, 0, 9),
+        None,
+        tells(21, 2, 9),
+        None,
+        tells(20, 0, 9),
     ];
     let call = Call::Sheet {
         border: 2,
         period: 9,
         sheet: sheet(700, 1_000, 350),
     };
-    for i in 0..6 {
-        assert_eq!(rt; in_state(&rt, STATES[i], call)?, expected[i]);
+    for (state, expected) in STATES.iter().zip(&expected) {
+        assert_eq!(rt; in_state(&rt, *state, call)?, *expected);
     }
     Ok(())
 }
@@ -239,12 +235,10 @@ fn carry(border: i32, period: i32) -> Call {
 }
 
 // What the adoption of staged positions tells, where both borders carry 400 in periods 4 and 9 and zone 1 may import 50 in period 4.
-fn adoption(rt: &impl Abort, staged: &[Call]) -> Result<(u8, i32, i32), Fail> {
-    let mut deal_memory = [blank_deal(); 1];
-    let mut sheet_memory = [blank_sheet(); 4];
-    let mut deals = Log::new(&mut deal_memory);
-    let mut sheets = Log::new(&mut sheet_memory);
-    let mut region = small()?;
+fn adoption(rt: &impl Abort, staged: &[Call]) -> Result<Option<Told>, Fail> {
+    let mut deals = [blank_deal(); 1];
+    let mut sheets = [blank_sheet(); 4];
+    let mut day = Day::new(small()?, &mut deals, &mut sheets);
     let limit = Call::Limit {
         zone: 1,
         period: 4,
@@ -259,23 +253,23 @@ fn adoption(rt: &impl Abort, staged: &[Call]) -> Result<(u8, i32, i32), Fail> {
         limit,
         Call::Offer,
     ];
-    accepted(rt, &mut region, &mut deals, &mut sheets, &calls);
-    accepted(rt, &mut region, &mut deals, &mut sheets, staged);
-    Ok(told(&mut region, &mut deals, &mut sheets, Call::Adopt))
+    day.accepted(rt, &calls);
+    day.accepted(rt, staged);
+    Ok(day.told(Call::Adopt))
 }
 
 #[test]
 fn grounds_of_an_adoption(rt: HostRuntime) -> Result<(), Fail> {
     let nothing = stage(2, 1, 0);
     let table = [
-        ([nothing, nothing, nothing, nothing], (0, 0, 0)),
+        ([nothing, nothing, nothing, nothing], None),
         (
             [stage(0, 9, 400), stage(2, 9, -400), nothing, nothing],
-            (0, 0, 0),
+            None,
         ),
         (
             [stage(0, 9, 400), stage(2, 9, -399), nothing, nothing],
-            (23, 0, 9),
+            tells(23, 0, 9),
         ),
         (
             [
@@ -284,7 +278,7 @@ fn grounds_of_an_adoption(rt: HostRuntime) -> Result<(), Fail> {
                 stage(1, 5, -100),
                 nothing,
             ],
-            (23, 0, 24),
+            tells(23, 0, 24),
         ),
         (
             [
@@ -293,15 +287,15 @@ fn grounds_of_an_adoption(rt: HostRuntime) -> Result<(), Fail> {
                 stage(0, 4, 60),
                 stage(1, 4, -60),
             ],
-            (24, 1, 0),
+            tells(24, 1, 0),
         ),
         (
             [stage(1, 9, 401), stage(2, 9, -401), nothing, nothing],
-            (24, 2, 0),
+            tells(24, 2, 0),
         ),
         (
             [stage(0, 4, 60), stage(1, 4, -60), nothing, nothing],
-            (25, 1, 4),
+            tells(25, 1, 4),
         ),
     ];
     for (staged, expected) in table {
@@ -312,19 +306,11 @@ fn grounds_of_an_adoption(rt: HostRuntime) -> Result<(), Fail> {
 
 #[test]
 fn sheet_log_that_is_full(rt: HostRuntime) -> Result<(), Fail> {
-    let mut deal_memory = [blank_deal(); 1];
-    let mut sheet_memory = [blank_sheet(); 1];
-    let mut deals = Log::new(&mut deal_memory);
-    let mut sheets = Log::new(&mut sheet_memory);
-    let mut region = small()?;
-    assert_eq!(rt;
-        told(&mut region, &mut deals, &mut sheets, carry(1, 3)),
-        (0, 0, 0)
-    );
-    assert_eq!(rt;
-        told(&mut region, &mut deals, &mut sheets, carry(1, 8)),
-        (26, 0, 8)
-    );
-    assert_eq!(rt; sheets.count(), 1);
+    let mut deals = [blank_deal(); 1];
+    let mut sheets = [blank_sheet(); 1];
+    let mut day = Day::new(small()?, &mut deals, &mut sheets);
+    assert_eq!(rt; day.told(carry(1, 3)), None);
+    assert_eq!(rt; day.told(carry(1, 8)), tells(26, 0, 8));
+    assert_eq!(rt; day.counts(), (0, 1));
     Ok(())
 }

@@ -1,7 +1,7 @@
 // A small region to try calls on: zones 0, 1 and 2 in a row, a cable between 0 and 1, a line between 1 and 2.
-use book::{AcceptedSheet, Answer, Call, Deal, State};
+use book::{AcceptedSheet, Answer, Call, Deal, RegionFault, State};
 use borders::{NoBorders, Pair, Sheet};
-use equations::Side;
+use equations::{Side, Told};
 use kinds::{Cable, Line, Made, Sheeted};
 use logs::Log;
 use region::Region;
@@ -28,10 +28,7 @@ pub(crate) fn small() -> Result<Small, Fail> {
         first: Sheeted::<Cable>::make(),
         rest: line,
     };
-    match Region::new(&[0, 1], bank) {
-        Ok(region) => Ok(region),
-        Err(_) => Err(Fail::new("region refused")),
-    }
+    Region::new(&[0, 1], bank).map_err(|_| Fail::new("region refused"))
 }
 
 // A sheet with these figures both ways.
@@ -69,83 +66,84 @@ pub(crate) fn blank_sheet() -> AcceptedSheet {
     }
 }
 
-// Makes a call, and gives what its refusal tells; three zeros if it is accepted.
-pub(crate) fn told(
-    region: &mut Small,
-    deals: &mut Log<Deal>,
-    sheets: &mut Log<AcceptedSheet>,
-    call: Call,
-) -> (u8, i32, i32) {
-    match region.call(deals, sheets, call) {
-        Ok(_) => (0, 0, 0),
-        Err(fault) => {
-            let told = fault.told();
-            (told.number, told.place, told.period)
-        }
-    }
+// What a refusal tells: the number of its ground, the place and the period.
+pub(crate) fn tells(number: u8, place: i32, period: i32) -> Option<Told> {
+    Some(Told {
+        number,
+        place,
+        period,
+    })
 }
 
-// Brings a new region to a state.
-pub(crate) fn bring(
-    rt: &impl Abort,
-    region: &mut Small,
-    deals: &mut Log<Deal>,
-    sheets: &mut Log<AcceptedSheet>,
-    state: State,
-) {
-    let calls: &[Call] = match state {
-        State::Drafting => &[],
-        State::Offered => &[Call::Offer],
-        State::Matched => &[Call::Offer, Call::Adopt],
-        State::Waiting => &[Call::Offer, Call::Gate],
-        State::Trading => &[Call::Offer, Call::Gate, Call::Adopt],
-        State::Closed => &[Call::Offer, Call::Gate, Call::End],
-    };
-    accepted(rt, region, deals, sheets, calls);
+// The small region and both its logs.
+#[derive(Drop)]
+pub(crate) struct Day<'a> {
+    region: Small,
+    deals: Log<'a, Deal>,
+    pub(crate) sheets: Log<'a, AcceptedSheet>,
+}
+
+impl<'a> Day<'a> {
+    // A new day of a region, with logs in the memory given.
+    pub(crate) fn new(
+        region: Small,
+        deals: &'a mut [Deal],
+        sheets: &'a mut [AcceptedSheet],
+    ) -> Day<'a> {
+        Day {
+            region,
+            deals: Log::new(deals),
+            sheets: Log::new(sheets),
+        }
+    }
+
+    // Makes a call, and gives what its refusal tells; none if it is accepted.
+    pub(crate) fn told(&mut self, call: Call) -> Option<Told> {
+        let answer = self.region.call(&mut self.deals, &mut self.sheets, call);
+        answer.err().map(|fault| fault.told())
+    }
+
+    // Makes calls that are all accepted.
+    pub(crate) fn accepted(&mut self, rt: &impl Abort, calls: &[Call]) {
+        for call in calls {
+            assert_eq!(rt; self.told(*call), None);
+        }
+    }
+
+    // Brings a new day to a state.
+    pub(crate) fn bring(&mut self, rt: &impl Abort, state: State) {
+        let calls: &[Call] = match state {
+            State::Drafting => &[],
+            State::Offered => &[Call::Offer],
+            State::Matched => &[Call::Offer, Call::Adopt],
+            State::Waiting => &[Call::Offer, Call::Gate],
+            State::Trading => &[Call::Offer, Call::Gate, Call::Adopt],
+            State::Closed => &[Call::Offer, Call::Gate, Call::End],
+        };
+        self.accepted(rt, calls);
+    }
+
+    // What is told of a border in period 5.
+    pub(crate) fn of_border(&self, border: i32) -> Result<Answer, RegionFault> {
+        self.region.ask_border(border, 5)
+    }
+
+    // What is told of a zone in period 5.
+    pub(crate) fn of_zone(&self, zone: i32) -> Result<Answer, RegionFault> {
+        self.region.ask_zone(zone, 5)
+    }
+
+    // How many deals and sheets the logs hold.
+    pub(crate) fn counts(&self) -> (usize, usize) {
+        (self.deals.count(), self.sheets.count())
+    }
 }
 
 // What a call tells that is made on a new region in a state.
-pub(crate) fn in_state(rt: &impl Abort, state: State, call: Call) -> Result<(u8, i32, i32), Fail> {
-    let mut deal_memory = [blank_deal(); 1];
-    let mut sheet_memory = [blank_sheet(); 1];
-    let mut deals = Log::new(&mut deal_memory);
-    let mut sheets = Log::new(&mut sheet_memory);
-    let mut region = small()?;
-    bring(rt, &mut region, &mut deals, &mut sheets, state);
-    Ok(told(&mut region, &mut deals, &mut sheets, call))
-}
-
-// Makes calls that are all accepted.
-pub(crate) fn accepted(
-    rt: &impl Abort,
-    region: &mut Small,
-    deals: &mut Log<Deal>,
-    sheets: &mut Log<AcceptedSheet>,
-    calls: &[Call],
-) {
-    for call in calls {
-        assert_eq!(rt; told(region, deals, sheets, *call), (0, 0, 0));
-    }
-}
-
-// Both capacities and the flow of a border in period 5; minus ones for a refusal.
-pub(crate) fn of_border(region: &Small, border: i32) -> (i32, i32, i32) {
-    match region.ask_border(border, 5) {
-        Ok(
-            Answer::Border {
-                forward,
-                backward,
-                flow,
-            },
-        ) => (forward, backward, flow),
-        _ => (-1, -1, -1),
-    }
-}
-
-// Net position and overrun of a zone in period 5; minus ones for a refusal.
-pub(crate) fn of_zone(region: &Small, zone: i32) -> (i64, i64) {
-    match region.ask_zone(zone, 5) {
-        Ok(Answer::Zone { net, overrun }) => (net, overrun),
-        _ => (-1, -1),
-    }
+pub(crate) fn in_state(rt: &impl Abort, state: State, call: Call) -> Result<Option<Told>, Fail> {
+    let mut deals = [blank_deal(); 1];
+    let mut sheets = [blank_sheet(); 1];
+    let mut day = Day::new(small()?, &mut deals, &mut sheets);
+    day.bring(rt, state);
+    Ok(day.told(call))
 }

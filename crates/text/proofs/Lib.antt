@@ -1,3 +1,2 @@
-mod DigitLaws
 pub mod LineLaws
 pub mod NumberLaws

@@ -1,13 +1,18 @@
 -- Laws of `lines`, for `next_line` and for the crates above.
-use Rattle.std.proofs.Common.{◌≡◌, ℕ, zero, suc, ◌+◌, ◌<◌, ◌≤◌, eqb, List, [], ◌∷◌, ◌++◌, length, get_or, take, drop, sym, refl, ap, ◌∙◌, inl, inr, add-one, arith, drop-cons}
+use Rattle.std.proofs.Common.{◌≡◌, ℕ, suc, ◌+◌, ◌<◌, ◌≤◌, eqb, List, [], ◌∷◌, ◌++◌, length, get_or, take, drop, sym, refl, ap, ◌∙◌, inl, inr, arith}
 use lib.Seq.{split_at}
-use Rattle.std.proofs.lemmas.List.{drop-drop, drop_all, take_all, get_or-take, length-take-le}
+use Rattle.std.proofs.lemmas.Grind.{common_steps}
 use Rattle.std.proofs.lemmas.Bool.{cases_lt, cond_both, ne_eqb}
 use Rattle.text.specs.Lines.{begins, lines, LineCut}
 
 pub lines_nil : lines [] ≡ []
 unfolding lines
 lines_nil = refl
+
+-- a file with no byte has no line
+pub lines_empty : (bs : List ℕ) → length bs ≡ 0 → lines bs ≡ []
+lines_empty [] none = lines_nil
+lines_empty (b ∷ bs) none = absurd (omega arith)
 
 pub lines_break : (bs : List ℕ) → lines (10 ∷ bs) ≡ [] ∷ lines bs
 unfolding lines
@@ -17,21 +22,34 @@ pub lines_byte : (b : ℕ) (bs : List ℕ) → (b ≡ 10 → ⊥) → lines (b �
 unfolding lines
 lines_byte b bs h = rw (ne_eqb b 10 h)
 
+-- a line that was cut off the front is the first, and what is left has the others
+lines_unbroken : (line rest : List ℕ) → ((k : ℕ) → k < length line → get_or line k 0 ≡ 10 → ⊥) → lines (line ++ (10 ∷ rest)) ≡ line ∷ lines rest
+lines_unbroken [] rest unbroken = lines_break rest
+lines_unbroken (b ∷ line) rest unbroken =
+    lines_byte b (line ++ (10 ∷ rest)) (unbroken 0 (omega arith)) ∙ ap (begins b) (lines_unbroken line rest (λ k h. unbroken (suc k) (omega arith)))
+
+lines_last : (line : List ℕ) → 0 < length line → ((k : ℕ) → k < length line → get_or line k 0 ≡ 10 → ⊥) → lines line ≡ line ∷ []
+lines_last [] some unbroken = absurd (omega arith)
+lines_last (b ∷ []) some unbroken = lines_byte b [] (unbroken 0 (omega arith)) ∙ ap (begins b) lines_nil
+lines_last (b ∷ (c ∷ cs)) some unbroken =
+    lines_byte b (c ∷ cs) (unbroken 0 (omega arith)) ∙ ap (begins b) (lines_last (c ∷ cs) (omega arith) (λ k h. unbroken (suc k) (omega arith)))
+
+pub lines_cut : (bs line rest : List ℕ) → 0 < length bs → LineCut bs line rest → lines bs ≡ line ∷ lines rest
+lines_cut bs line rest some cut = elim cut.parts [
+  | inl e ↦ rw e (lines_unbroken line rest cut.unbroken)
+  | inr e ↦ rw (e.0, e.1) (lines_last line (rw e.0 at some) cut.unbroken ∙ ap (λ ls. line ∷ ls) (sym lines_nil))
+]
+
+-- the bytes before the first byte 10, or all of them if there is none, are a line cut off the front
+cut_at : (bs : List ℕ) (n : ℕ) → n ≤ length bs → ((k : ℕ) → k < n → get_or bs k 0 ≡ 10 → ⊥) → (n < length bs → get_or bs n 0 ≡ 10) → LineCut bs (take n bs) (drop (suc n) bs)
+cut_at bs n within before found = record {
+  unbroken = λ k h. grind (arith, common_steps);
+  parts = elim (cases_lt n (length bs)) [ inl h ↦ inl (rw (found h) at (split_at bs n 0 h)) | inr h ↦ inr (grind (arith, common_steps), grind (arith, common_steps)) ];
+}
+
 -- the first line has n bytes, and the next one begins behind the byte that ends it
 pub lines_first : (bs : List ℕ) (n : ℕ) → 0 < length bs → n ≤ length bs → ((k : ℕ) → k < n → get_or bs k 0 ≡ 10 → ⊥) → (n < length bs → get_or bs n 0 ≡ 10) → lines bs ≡ take n bs ∷ lines (drop (suc n) bs)
-unfolding lines
-lines_first [] n some within before found = absurd (omega arith)
-lines_first (b ∷ bs) zero some within before found = rw (found (omega arith)) refl
-lines_first (b ∷ []) (suc zero) some within before found = lines_byte b [] (before 0 (omega arith))
-lines_first (b ∷ []) (suc (suc n)) some within before found = absurd (omega arith)
-lines_first (b ∷ (c ∷ cs)) (suc n) some within before found =
-    lines_byte b (c ∷ cs) (before 0 (omega arith)) ∙ ap (begins b) (lines_first (c ∷ cs) n (omega arith) (omega arith) (λ k h. before (suc k) (omega arith)) (λ h. found (omega arith)))
-
--- the same, with what stands before and behind the first line's end given as parts
-pub lines_cut : (bs line after behind : List ℕ) (n : ℕ) → 0 < length bs → n ≤ length bs → ((k : ℕ) → k < n → get_or bs k 0 ≡ 10 → ⊥) → (n < length bs → get_or bs n 0 ≡ 10) → line ≡ take n bs → after ≡ drop n bs → behind ≡ drop 1 after → lines bs ≡ line ∷ lines behind
-lines_cut bs line after behind n some within before found front back next =
-    let e : behind ≡ drop (suc n) bs = next ∙ ap (drop 1) back ∙ drop-drop 1 n bs ∙ ap (λ k. drop k bs) (add-one n) in
-    rw (front, e) (lines_first bs n some within before found)
+lines_first bs n some within before found = lines_cut bs _ _ some (cut_at bs n within before found)
 
 begins_length : (b : ℕ) (ls : List (List ℕ)) → (0 < length (begins b ls)) × (length (begins b ls) ≤ 1 + length ls)
 begins_length b [] = (omega arith, omega arith)
@@ -56,18 +74,3 @@ length_lines_le [] = omega arith
 length_lines_le (b ∷ bs) =
     let shorter = length_lines_le bs in
     cond_both (eqb b 10) ([] ∷ lines bs) (begins b (lines bs)) (λ ls. length ls ≤ suc (length bs)) (λ _. omega arith) (λ _. omega (arith, (begins_length b (lines bs)).1))
-
--- the parts of what is left, where a line of n bytes is cut off its front
-pub cut_parts : (bs line after behind : List ℕ) (n : ℕ) → n ≤ length bs → ((k : ℕ) → k < n → get_or bs k 0 ≡ 10 → ⊥) → (n < length bs → get_or bs n 0 ≡ 10) → line ≡ take n bs → after ≡ drop n bs → behind ≡ drop 1 after → LineCut bs line behind
-cut_parts bs line after behind n within before stop front back next = record {
-  unbroken = λ k h e.
-      let below : k < n = omega (arith, ap length front, length-take-le n bs within) in
-      before k below (sym (get_or-take n bs k 0 below) ∙ ap (λ l. get_or l k 0) (sym front) ∙ e);
-  parts = elim (cases_lt n (length bs)) [
-    | inl h ↦ inl (split_at bs n 0 h ∙ same (stop h) (front) (next ∙ ap (drop 1) (back ∙ drop-cons bs n 0 h)))
-    | inr h ↦ inr (sym (front ∙ take_all n bs h), next ∙ ap (drop 1) (back ∙ drop_all n bs h))
-  ];
-}
-  where
-    same : {b : ℕ} {first rest : List ℕ} → b ≡ 10 → line ≡ first → behind ≡ rest → first ++ (b ∷ rest) ≡ line ++ (10 ∷ behind)
-    same e f g = cc

@@ -1,5 +1,7 @@
 -- The lines of a file.
-use Rattle.std.specs.Prelude.{◌≡◌, ℕ, ◌<◌, Bool, cond, ◌⊎◌, List, [], ◌∷◌, ◌++◌, length, Some, None, Option, ◌==◌, ◌≢◌, nat_lt, slice_index}
+use Rattle.std.specs.Prelude.{◌≡◌, ℕ, ◌<◌, Bool, cond, ◌⊎◌, List, [], ◌∷◌, ◌++◌, length, Some, None, Option, IfSome, ◌==◌, ◌≢◌, nat_lt, slice_index}
+use Rattle.std.specs.Borrow.{Bor}
+use Rattle.std.specs.Option.{option_map}
 
 -- the byte b, put before the first of the lines
 abbrev pub begins : ℕ → List (List ℕ) → List (List ℕ)
@@ -24,3 +26,8 @@ Next left (Some first) after = lines left ≡ first ∷ lines after
 pub record LineCut (left first after : List ℕ) : Type 0 where
   pub unbroken : (k : ℕ) → k < length first → slice_index first k ≢ 10
   pub parts : (left ≡ first ++ (10 ∷ after)) ⊎ ((left ≡ first) × (after ≡ []))
+
+-- what one call hands out of what is left: the next line, cut off its front
+pub record HandsOut (left : List ℕ) (given : Option (Bor (List ℕ))) (after : List ℕ) : Type 0 where
+  pub next : Next left (option_map (λ line. line.now) given) after
+  pub part : IfSome given (λ line. LineCut left line.now after)

@@ -1,6 +1,5 @@
 use equations::{
-    Direction, FigureFault, Formula, Side, Source, atc, cut, margin, margin_of_sums, reserve,
-    uncut_ntc,
+    Direction, FigureFault, Formula, OneWay, Side, Source, Sums, cut, margin, reserve,
 };
 use std::test::Fail;
 
@@ -48,7 +47,12 @@ fn margins_of_sums(rt: HostRuntime) {
         ((i64::MAX, i64::MIN, i64::MAX), None),
     ];
     for ((count, sum, squares), answer) in table {
-        assert_eq!(rt; margin_of_sums(count, sum, squares), answer);
+        let sums = Sums {
+            count,
+            sum,
+            squares,
+        };
+        assert_eq!(rt; sums.margin(), answer);
     }
 }
 
@@ -94,6 +98,15 @@ fn reserves(rt: HostRuntime) {
     assert_eq!(rt; reserve(&last_bad, 0), Err(FigureFault::Entry(3)));
 }
 
+// A line in one direction.
+fn line(direction: Direction, side: Side) -> OneWay {
+    OneWay {
+        formula: Formula::Line,
+        direction,
+        side,
+    }
+}
+
 // Capacities: uncut and cut, and what is available of a line either way at a flow and a power flow.
 #[test]
 fn capacities(rt: HostRuntime) {
@@ -109,7 +122,7 @@ fn capacities(rt: HostRuntime) {
         margin: 60,
         reserve: 247,
     };
-    assert_eq!(rt; uncut_ntc(Formula::Line, Direction::Forward, &narrow), -10);
+    assert_eq!(rt; line(Direction::Forward, narrow).uncut_ntc(), -10);
     assert_eq!(rt; cut(-10), 0);
     let table = [
         (Direction::Forward, narrow, 0, 30, -30),
@@ -120,13 +133,12 @@ fn capacities(rt: HostRuntime) {
         (Direction::Backward, wide, -300, -200, 647),
     ];
     for (direction, side, flow, power_flow, answer) in table {
-        assert_eq!(rt;
-            atc(Formula::Line, direction, &side, flow, power_flow),
-            answer
-        );
+        assert_eq!(rt; line(direction, side).atc(flow, power_flow), answer);
     }
-    assert_eq!(rt;
-        atc(Formula::Given, Direction::Backward, &wide, i32::MIN, 0),
-        700 - 2_147_483_648
-    );
+    let given = OneWay {
+        formula: Formula::Given,
+        direction: Direction::Backward,
+        side: wide,
+    };
+    assert_eq!(rt; given.atc(i32::MIN, 0), 700 - 2_147_483_648);
 }

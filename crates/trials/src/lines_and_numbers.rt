@@ -36,9 +36,9 @@ fn cuts_lines(rt: HostRuntime) {
     for (file, answers) in table {
         let mut lines = Lines::new(file);
         for answer in answers {
-            assert_eq!(rt; lines.next_line(), Some(*answer));
+            assert_eq!(rt; lines.next(), Some(*answer));
         }
-        assert_eq!(rt; lines.next_line(), None);
+        assert_eq!(rt; lines.next(), None);
     }
 }
 

@@ -1,57 +1,33 @@
 // Trees and the ways in them.
-use equations::Direction;
+use equations::{Direction, Told};
 use std::process::Abort;
 use std::test::Fail;
-use zones::{Tree, TreeFault, Way};
+use zones::{Step, Tree, TreeFault, Way};
 
-// The tree of the given parents, which are allowed.
-fn tree(parents: &[usize]) -> Result<Tree, Fail> {
-    let Ok(tree) = Tree::new(parents) else {
-        return Err(Fail::new("tree refused"));
-    };
-    Ok(tree)
-}
-
-// Whether a step of the way crosses this border in this direction.
-fn check_step(
-    rt: &impl Abort,
-    way: &Way,
-    number: usize,
-    border: usize,
-    forward: bool,
-) -> Result<(), Fail> {
-    let Some(step) = way.step(number) else {
-        return Err(Fail::new("way too short"));
-    };
-    assert_eq!(rt; step.border, border);
-    assert_eq!(rt; matches!(step.direction, Direction::Forward), forward);
-    Ok(())
-}
-
-// Whether the way from seller to buyer crosses these borders backward, then these forward, and no more.
-fn check_way(
-    rt: &impl Abort,
-    tree: &Tree,
-    seller: usize,
-    buyer: usize,
-    backward: &[usize],
-    forward: &[usize],
-) -> Result<(), Fail> {
-    let way = tree.way(seller, buyer);
-    for i in 0..backward.len() {
-        check_step(rt, &way, i, backward[i], false)?;
-    }
-    for i in 0..forward.len() {
-        check_step(rt, &way, backward.len() + i, forward[i], true)?;
+// Whether the way crosses these borders backward, then these forward, and no more.
+fn check_way(rt: &impl Abort, way: &Way, backward: &[usize], forward: &[usize]) {
+    let up = backward.iter().map(|border| Step {
+        border: *border,
+        direction: Direction::Backward,
+    });
+    let down = forward.iter().map(|border| Step {
+        border: *border,
+        direction: Direction::Forward,
+    });
+    for (number, step) in up.chain(down).enumerate() {
+        assert_eq!(rt; way.step(number), Some(step));
     }
     assert_eq!(rt; way.length(), backward.len() + forward.len());
-    assert!(rt; way.step(way.length()).is_none());
-    Ok(())
+    assert_eq!(rt; way.step(way.length()), None);
+    assert_eq!(rt; way.steps().len(), way.length());
+    for (number, step) in way.steps().iter().enumerate() {
+        assert_eq!(rt; way.step(number), Some(*step));
+    }
 }
 
 #[test]
 fn ways_of_the_six_zones(rt: HostRuntime) -> Result<(), Fail> {
-    let six = tree(&[0, 1, 2, 3, 3])?;
+    let six = Tree::new(&[0, 1, 2, 3, 3])?;
     assert_eq!(rt; six.count(), 6);
     let table: [(usize, usize, &[usize], &[usize]); 37] = [
         (0, 0, &[], &[]),
@@ -93,14 +69,14 @@ fn ways_of_the_six_zones(rt: HostRuntime) -> Result<(), Fail> {
         (6, 0, &[], &[]),
     ];
     for (seller, buyer, backward, forward) in table {
-        check_way(&rt, &six, seller, buyer, backward, forward)?;
+        check_way(&rt, &six.way(seller, buyer), backward, forward);
     }
     Ok(())
 }
 
 #[test]
 fn behind_the_borders_of_six_zones(rt: HostRuntime) -> Result<(), Fail> {
-    let six = tree(&[0, 1, 2, 3, 3])?;
+    let six = Tree::new(&[0, 1, 2, 3, 3])?;
     let table = [
         (0, None, [false, false, false, false, false, false]),
         (1, Some(0), [false, true, true, true, true, true]),
@@ -112,8 +88,8 @@ fn behind_the_borders_of_six_zones(rt: HostRuntime) -> Result<(), Fail> {
     ];
     for (border, parent, behind) in table {
         assert_eq!(rt; six.parent(border), parent);
-        for zone in 0..6 {
-            assert_eq!(rt; six.lies_behind(border, zone), behind[zone]);
+        for (zone, lies) in behind.iter().enumerate() {
+            assert_eq!(rt; six.lies_behind(border, zone), *lies);
         }
         assert!(rt; !six.lies_behind(border, 6));
     }
@@ -122,23 +98,23 @@ fn behind_the_borders_of_six_zones(rt: HostRuntime) -> Result<(), Fail> {
 
 #[test]
 fn chain_and_star_of_16(rt: HostRuntime) -> Result<(), Fail> {
-    let chain = tree(&[0, 1, 2, 3, 4, 5, 6, 7, 8, 9, 10, 11, 12, 13, 14])?;
+    let chain = Tree::new(&[0, 1, 2, 3, 4, 5, 6, 7, 8, 9, 10, 11, 12, 13, 14])?;
     let all = [1, 2, 3, 4, 5, 6, 7, 8, 9, 10, 11, 12, 13, 14, 15];
     let back = [15, 14, 13, 12, 11, 10, 9, 8, 7, 6, 5, 4, 3, 2, 1];
-    check_way(&rt, &chain, 0, 15, &[], &all)?;
-    check_way(&rt, &chain, 15, 0, &back, &[])?;
+    check_way(&rt, &chain.way(0, 15), &[], &all);
+    check_way(&rt, &chain.way(15, 0), &back, &[]);
     assert!(rt; chain.lies_behind(1, 15));
     assert!(rt; !chain.lies_behind(15, 14));
-    let star = tree(&[0; 15])?;
-    check_way(&rt, &star, 15, 1, &[15], &[1])?;
-    check_way(&rt, &star, 1, 15, &[1], &[15])?;
-    check_way(&rt, &star, 0, 15, &[], &[15])?;
+    let star = Tree::new(&[0; 15])?;
+    check_way(&rt, &star.way(15, 1), &[15], &[1]);
+    check_way(&rt, &star.way(1, 15), &[1], &[15]);
+    check_way(&rt, &star.way(0, 15), &[], &[15]);
     assert!(rt; !star.lies_behind(1, 15));
     Ok(())
 }
 
 #[test]
-fn parents_not_allowed(rt: HostRuntime) -> Result<(), Fail> {
+fn parents_not_allowed(rt: HostRuntime) {
     let table: [(&[usize], TreeFault, i32); 8] = [
         (&[], TreeFault::Count, 0),
         (&[0; 16], TreeFault::Count, 0),
@@ -158,23 +134,19 @@ fn parents_not_allowed(rt: HostRuntime) -> Result<(), Fail> {
         (&[2, 5], TreeFault::Parent(1), 1),
     ];
     for (parents, fault, place) in table {
-        match Tree::new(parents) {
-            Ok(_) => return Err(Fail::new("tree allowed")),
-            Err(found) => {
-                assert_eq!(rt; found, fault);
-                let told = found.told();
-                assert_eq!(rt; told.number, 8);
-                assert_eq!(rt; told.place, place);
-                assert_eq!(rt; told.period, 0);
-            }
-        }
+        assert_eq!(rt; Tree::new(parents).err(), Some(fault));
+        let told = Told {
+            number: 8,
+            place,
+            period: 0,
+        };
+        assert_eq!(rt; fault.told(), told);
     }
-    Ok(())
 }
 
 #[test]
 fn net_positions_of_flows(rt: HostRuntime) -> Result<(), Fail> {
-    let six = tree(&[0, 1, 2, 3, 3])?;
+    let six = Tree::new(&[0, 1, 2, 3, 3])?;
     let table: [(&[i32], [i64; 7]); 4] = [
         (&[10, -20, 30, 5, -7], [10, -30, 50, -32, -5, 7, 0]),
         (&[0, 0, 100, 0, 100, 55], [0, 0, 100, 0, 0, -100, 0]),
@@ -193,8 +165,8 @@ fn net_positions_of_flows(rt: HostRuntime) -> Result<(), Fail> {
         ),
     ];
     for (flows, positions) in table {
-        for zone in 0..7 {
-            assert_eq!(rt; six.net_position(flows, zone), positions[zone]);
+        for (zone, position) in positions.iter().enumerate() {
+            assert_eq!(rt; six.net_position(flows, zone), *position);
         }
     }
     Ok(())

@@ -1,9 +1,10 @@
 -- What lies behind a border follows from the parents.
-use Rattle.std.proofs.Common.{◌≡◌, ℕ, zero, suc, ◌<◌, ◌≤◌, Bool, true, false, cond, ◌||◌, eqb, List, [], ◌∷◌, ℤ, pos, ◌+ℤ◌, sym, refl, ap, ◌∙◌, subst, ⊎_elim, arith}
+use Rattle.std.proofs.Common.{◌≡◌, ℕ, zero, suc, ◌<◌, ◌≤◌, true, false, cond, ◌||◌, eqb, List, [], ◌∷◌, ℤ, pos, ◌+ℤ◌, sym, refl, ap, ◌∙◌, subst, ⊎_elim, arith}
 use Rattle.std.proofs.lemmas.Int.{ints}
 use Rattle.std.proofs.lemmas.Bool.{cases_eq, eq-eqb, ne_eqb, cond-true, cond-false, or_left, or_right}
 use Rattle.std.specs.List.{AllByRecursion as All}
 use Rattle.std.proofs.ByRecursion.{All-weaker}
+use Rattle.std.proofs.Math.Bool.{or-false}
 use Rattle.zones.specs.Sums.{part}
 use Rattle.zones.specs.Ways.{Ordered, climbed, chain, meets, behind}
 
@@ -15,10 +16,6 @@ meets_none z c (x ∷ xs) h l =
     let a = h.0 in
     let t : eqb x c ≡ false = ne_eqb x c (λ e. omega arith) in
     rw t (meets_none z c xs h.1 l)
-
-or_none : (b : Bool) → (b || false) ≡ b
-or_none true = refl
-or_none false = refl
 
 module _ (up : ℕ → ℕ) (ordered : Ordered up) where
   -- more steps than the zone's number lead no further
@@ -74,7 +71,7 @@ module _ (up : ℕ → ℕ) (ordered : Ordered up) where
 
   pub behind_of_0 : (c : ℕ) → behind up c 0 ≡ eqb 0 c
   unfolding behind meets
-  behind_of_0 c = ap (λ xs. meets xs c) chain_of_0 ∙ or_none (eqb 0 c)
+  behind_of_0 c = ap (λ xs. meets xs c) chain_of_0 ∙ or-false (eqb 0 c)
 
   -- a zone above 0 is behind a border exactly if it is that border's zone or its parent is behind it
   pub behind_by_parent : (c d : ℕ) → 1 ≤ d → behind up c d ≡ (eqb d c || behind up c (up d))

@@ -1,54 +1,31 @@
--- How the table of parents is filled.
-use Rattle.std.proofs.Common.{◌≡◌, ℕ, ◌+◌, ◌<◌, ◌≤◌, List, [], ◌∷◌, length, get_or, set, replicate, sym, refl, ap, ◌∙◌, subst, ⊎_elim, arith}
-use Rattle.std.proofs.lemmas.List.{get_or-append-add, get_or_past, get_or-set_same, get_or-set_other, get_or-replicate, length-set}
-use Rattle.std.proofs.lemmas.Bool.{cases_eq, cases_lt}
+-- The table of parents: those given stand behind the parent of zone 0, and zones beyond them have 0.
+use Rattle.std.proofs.Common.{◌≡◌, ℕ, ◌+◌, ◌-◌, ◌<◌, ◌≤◌, List, ◌∷◌, ◌++◌, length, get_or, drop, replicate, sym, refl, ap, ◌∙◌, ⊎_elim, arith}
+use Rattle.std.proofs.lemmas.List.{get_or_append_left, get_or-append_right, get_or_past, get_or-replicate, length-replicate, drop-replicate}
+use Rattle.std.proofs.lemmas.Bool.{cases_lt}
 use Rattle.zones.specs.Trees.{parent_in, AllowedBelow}
 
--- zones as far as i have the parents given, and those beyond have 0
-pub record Filled (given table : List ℕ) (i : ℕ) : Type 0 where
-  pub memory : length table ≡ 16
-  pub so_far : (z : ℕ) → z ≤ i → get_or table z 0 ≡ parent_in given z
-  pub beyond : (z : ℕ) → i < z → get_or table z 0 ≡ 0
+zero_in_zeros : (n k : ℕ) → get_or {A = ℕ} (replicate n 0) k 0 ≡ 0
+zero_in_zeros n k = ⊎_elim
+    (λ (l : k < n). get_or-replicate n k 0 0 l)
+    (λ (l : n ≤ k). get_or_past (replicate n 0) k 0 (omega (arith, length-replicate {A = ℕ} n 0)))
+    (cases_lt k n)
 
--- the parent of zone i + 1 stands at place i
-pub parent_next : (given : List ℕ) (i : ℕ) → parent_in given (i + 1) ≡ get_or given i 0
-parent_next given i = ap (λ k. get_or (0 ∷ given) k 0) (omega arith) ∙ get_or-append-add (0 ∷ []) given i 0
+zeros_behind : (xs : List ℕ) (n k : ℕ) → get_or (xs ++ replicate n 0) k 0 ≡ get_or xs k 0
+zeros_behind xs n k = ⊎_elim
+    (λ (l : k < length xs). get_or_append_left xs (replicate n 0) 0 k l)
+    (λ (l : length xs ≤ k). get_or-append_right xs (replicate n 0) (length xs) k 0 refl l ∙ zero_in_zeros n (k - length xs) ∙ sym (get_or_past xs k 0 l))
+    (cases_lt k (length xs))
 
-module _ (given table : List ℕ) (i : ℕ) (filled : Filled given table i) where
-  pub filled_more : i + 1 < 16 → Filled given (set table (i + 1) (get_or given i 0)) (i + 1)
-  filled_more l =
-      let e = filled.memory in
-      record {
-        memory = length-set table (i + 1) (get_or given i 0) ∙ e;
-        so_far = λ z k. ⊎_elim
-            (λ (q : z ≡ i + 1).
-            ap (λ j. get_or (set table (i + 1) (get_or given i 0)) j 0) q ∙ get_or-set_same table (i + 1) (get_or given i 0) 0 (omega arith)
-            ∙ sym (parent_next given i) ∙ ap (parent_in given) (sym q))
-            (λ (q : z ≡ i + 1 → ⊥). get_or-set_other table (i + 1) z (get_or given i 0) 0 q ∙ filled.so_far z (omega arith))
-            (cases_eq z (i + 1));
-        beyond = λ z k. get_or-set_other table (i + 1) z (get_or given i 0) 0 (λ q. omega arith) ∙ filled.beyond z (omega arith);
-      }
+-- n of the 15 places behind that of zone 0 are overwritten by the parents given
+pub parents_stand : (given written : List ℕ) (n z : ℕ) → written ≡ given → get_or (0 ∷ (written ++ drop n (replicate 15 0))) z 0 ≡ parent_in given z
+parents_stand given written n z e =
+    ap (λ xs. get_or (0 ∷ (written ++ xs)) z 0) (drop-replicate n 15 0)
+    ∙ zeros_behind (0 ∷ written) (15 - n) z
+    ∙ ap (λ xs. parent_in xs z) e
 
-  -- filled to the end it holds the parents given, and all are smaller
-  pub filled_all : i ≡ length given → (z : ℕ) → get_or table z 0 ≡ parent_in given z
-  filled_all e z = ⊎_elim
-      (λ (l : i < z). filled.beyond z l ∙ sym (get_or_past (0 ∷ given) z 0 (let f = length_more given in omega arith)))
-      (λ (l : z ≤ i). filled.so_far z l)
-      (cases_lt i z)
-    where
-      length_more : (xs : List ℕ) → length (0 ∷ xs) ≡ length xs + 1
-      length_more xs = omega arith
-
-  pub filled_ordered : i ≡ length given → AllowedBelow given (length given + 1) → (z : ℕ) → 1 ≤ z → get_or table z 0 < z
-  filled_ordered e allowed z l = ⊎_elim
-      (λ (k : i < z). let f = filled.beyond z k in omega arith)
-      (λ (k : z ≤ i). let f = filled.so_far z k in let g = allowed z l (omega arith) in omega arith)
-      (cases_lt i z)
-
--- at first only zone 0 has its parent
-pub none_filled : (given : List ℕ) → Filled given (replicate 16 0) 0
-none_filled given = record {
-  memory = refl;
-  so_far = λ z l. let e : z ≡ 0 = omega arith in subst (λ (k : ℕ). get_or (replicate 16 0) k 0 ≡ parent_in given k) (sym e) refl;
-  beyond = λ z l. ⊎_elim (λ (k : z < 16). get_or-replicate 16 z 0 0 k) (λ (k : 16 ≤ z). get_or_past (replicate 16 0) z 0 k) (cases_lt z 16);
-}
+-- all have a smaller number, those beyond the parents given too
+pub parents_ordered : (given : List ℕ) → AllowedBelow given (length given + 1) → (z : ℕ) → 1 ≤ z → parent_in given z < z
+parents_ordered given allowed z l = ⊎_elim
+    (λ (k : z < length given + 1). allowed z l k)
+    (λ (k : length given + 1 ≤ z). let e = get_or_past (0 ∷ given) z 0 (omega arith) in omega arith)
+    (cases_lt z (length given + 1))

@@ -1,9 +1,8 @@
 -- The tree of zones as it is made, asked and refused.
-use Rattle.std.specs.Prelude.{◌≡◌, ℕ, ◌+◌, ◌-◌, ◌<◌, ◌≤◌, Bool, cond, ◌&&◌, List, [], ◌∷◌, ◌++◌, map, length, take, drop, ℤ, pos, Some, None, Option, Result, MatchResult, nat_lt, slice_index, slice_index_or}
+use Rattle.std.specs.Prelude.{◌≡◌, ℕ, ◌+◌, ◌<◌, ◌≤◌, Bool, cond, ◌&&◌, List, [], ◌∷◌, length, take, ℤ, pos, Some, None, Option, Result, MatchResult, nat_lt, slice_index, slice_index_or}
 use Rattle.equations.specs.Grounds.{tells}
 use Rattle.equations.specs.declared.fault.Told.{Told}
 use Rattle.equations.specs.declared.capacity.Direction.{Direction}
-use Rattle.equations.specs.declared.capacity.Direction.TheVariants.{Forward, Backward}
 use Rattle.zones.specs.declared.tree.Tree.{Tree}
 use Rattle.zones.specs.declared.tree.TreeFault.{TreeFault}
 use Rattle.zones.specs.declared.tree.TreeFault.TheVariants.{Count, Parent}
@@ -75,9 +74,9 @@ way_of t s b = cond (both_zones t s b) (way_along (up t) s b) []
 abbrev pub crossing : Direction → ℕ → Step
 crossing d c = record { border = c; direction = d }
 
--- the steps of a way as it is kept: the seller's side at the front of the memory, the buyer's at its end
+-- the steps of a way: the first of its memory
 abbrev pub steps_of : Way → List Step
-steps_of w = map (crossing Backward) (take w.selling w.borders) ++ map (crossing Forward) (drop (15 - w.buying) w.borders)
+steps_of w = take w.count w.steps
 
 -- the flow of border c in a list of the flows of borders 1, 2 and so on; 0 where there is none
 abbrev pub flow_in : List ℤ → ℕ → ℤ

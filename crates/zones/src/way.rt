@@ -1,5 +1,5 @@
 //! The way between two zones, kept in place.
-ghost use Rattle.std.specs.Prelude.{ℕ, ◌+◌, ◌≤◌};
+ghost use Rattle.std.specs.Prelude.{ℕ, ◌≤◌};
 
 use equations::Direction;
 
@@ -9,17 +9,22 @@ mod steps;
 pub const MOST_BORDERS: usize = 15;
 
 /// A border on a way, and the direction in which it is crossed.
-#[derive(Clone, Copy)]
+#[derive(Clone, Copy, PartialEq, Eq, Debug)]
 pub struct Step {
     pub border: usize,
     pub direction: Direction,
 }
 
-/// The way between two zones: the borders of the seller's side stand at the front of the memory in order, those of the buyer's at its end.
+// What stands in the memory of a way where it has no step.
+pub(crate) const FILLER: Step = Step {
+    border: 0,
+    direction: Direction::Forward,
+};
+
+/// The way between two zones: its steps in order from the seller, in the first places of a memory of its own.
 #[derive(Clone, Copy)]
 pub struct Way {
-    pub(crate) borders: [usize; MOST_BORDERS],
-    pub(crate) selling: usize,
-    pub(crate) buying: usize,
-    ghost apart: { selling + buying ≤ 15 },
+    pub(crate) steps: [Step; MOST_BORDERS],
+    pub(crate) count: usize,
+    ghost within: { count ≤ 15 },
 }

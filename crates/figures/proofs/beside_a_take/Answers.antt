@@ -1,23 +1,23 @@
 use Rattle.std.proofs.Common.{◌≡◌, pos, refl, ap, ◌∙◌}
 use Rattle.borders.specs.Border.{Meaning, took, ramped}
-use Rattle.kinds.specs.Sheets.{sheeted}
+use Rattle.kinds.specs.Sheets.{lowers, uppers, sheeted}
 use Rattle.figures.specs.Worked.{given_kind, new, resheeted, ramped_border, wide_sheet_lem}
 use Rattle.figures.proofs.Bordered.{sheeted_again, wide_border, ramp_takes, ramped_forward, ramped_backward}
 use Rattle.figures.proofs.beside_a_take.Goals as goal
 
 pub returns-in_err-take : goal.returns-in_err-take
 returns-in_err-take c =
-    let e1 : sheeted given_kind c.reassess.new.self.flows c.reassess.new.self.lower c.reassess.new.self.upper ≡ resheeted given_kind (new given_kind) wide_sheet_lem (pos 4) = sheeted_again given_kind (pos 4) _ _ (new given_kind) _ _ c.in_ok-reassess.ensures.1.follows c.make-below.ensures c.wide_sheet-wide.ensures in
-    let e2 : sheeted given_kind c.reassess-2.new.self.flows c.reassess-2.new.self.lower c.reassess-2.new.self.upper ≡ wide_border = sheeted_again given_kind (pos 5) _ _ (resheeted given_kind (new given_kind) wide_sheet_lem (pos 4)) _ _ c.in_ok-reassess-2.ensures.1.follows e1 c.wide_sheet-wide.ensures in
-    let e3 : ramped c.in-Ok.border.rate (sheeted given_kind c.in-Ok.border.below.flows c.in-Ok.border.below.lower c.in-Ok.border.below.upper) ≡ ramped (pos 200) wide_border = c.in-Ok.ensures.1 ∙ ap (ramped (pos 200)) e2 in
+    let e1 : sheeted given_kind c.reassess.new.self.flows (lowers c.reassess.new.self.limits) (uppers c.reassess.new.self.limits) ≡ resheeted given_kind (new given_kind) wide_sheet_lem (pos 4) = sheeted_again given_kind (pos 4) _ _ (new given_kind) _ _ c.in_ok-reassess.ensures.1.follows c.make-below.ensures c.wide_sheet-wide.ensures in
+    let e2 : sheeted given_kind c.reassess-2.new.self.flows (lowers c.reassess-2.new.self.limits) (uppers c.reassess-2.new.self.limits) ≡ wide_border = sheeted_again given_kind (pos 5) _ _ (resheeted given_kind (new given_kind) wide_sheet_lem (pos 4)) _ _ c.in_ok-reassess-2.ensures.1.follows e1 c.wide_sheet-wide.ensures in
+    let e3 : ramped c.in_ok-border.border.rate (sheeted given_kind c.in_ok-border.border.below.flows (lowers c.in_ok-border.border.below.limits) (uppers c.in_ok-border.border.below.limits)) ≡ ramped (pos 200) wide_border = c.in_ok-border.ensures.1 ∙ ap (ramped (pos 200)) e2 in
     absurd (c.in_err-take.ensures.0 (ramp_takes _ e3))
 
 pub returns : goal.returns
 returns c =
-    let e1 : sheeted given_kind c.reassess.new.self.flows c.reassess.new.self.lower c.reassess.new.self.upper ≡ resheeted given_kind (new given_kind) wide_sheet_lem (pos 4) = sheeted_again given_kind (pos 4) _ _ (new given_kind) _ _ c.in_ok-reassess.ensures.1.follows c.make-below.ensures c.wide_sheet-wide.ensures in
-    let e2 : sheeted given_kind c.reassess-2.new.self.flows c.reassess-2.new.self.lower c.reassess-2.new.self.upper ≡ wide_border = sheeted_again given_kind (pos 5) _ _ (resheeted given_kind (new given_kind) wide_sheet_lem (pos 4)) _ _ c.in_ok-reassess-2.ensures.1.follows e1 c.wide_sheet-wide.ensures in
-    let e3 : ramped c.in-Ok.border.rate (sheeted given_kind c.in-Ok.border.below.flows c.in-Ok.border.below.lower c.in-Ok.border.below.upper) ≡ ramped (pos 200) wide_border = c.in-Ok.ensures.1 ∙ ap (ramped (pos 200)) e2 in
-    let e4 : ramped c.take.new.self.rate (sheeted given_kind c.take.new.self.below.flows c.take.new.self.below.lower c.take.new.self.below.upper) ≡ ramped_border = c.in_ok-take.ensures.1 ∙ ap (λ (b : Meaning). took b (pos 5) (pos 200)) e3 in
-    let f : c.forward_margin.result ≡ pos 200 = c.forward_margin.ensures ∙ ramped_forward _ e4 in
-    let g : c.backward_margin.result ≡ pos 0 = c.backward_margin.ensures ∙ ramped_backward _ e4 in
+    let e1 : sheeted given_kind c.reassess.new.self.flows (lowers c.reassess.new.self.limits) (uppers c.reassess.new.self.limits) ≡ resheeted given_kind (new given_kind) wide_sheet_lem (pos 4) = sheeted_again given_kind (pos 4) _ _ (new given_kind) _ _ c.in_ok-reassess.ensures.1.follows c.make-below.ensures c.wide_sheet-wide.ensures in
+    let e2 : sheeted given_kind c.reassess-2.new.self.flows (lowers c.reassess-2.new.self.limits) (uppers c.reassess-2.new.self.limits) ≡ wide_border = sheeted_again given_kind (pos 5) _ _ (resheeted given_kind (new given_kind) wide_sheet_lem (pos 4)) _ _ c.in_ok-reassess-2.ensures.1.follows e1 c.wide_sheet-wide.ensures in
+    let e3 : ramped c.in_ok-border.border.rate (sheeted given_kind c.in_ok-border.border.below.flows (lowers c.in_ok-border.border.below.limits) (uppers c.in_ok-border.border.below.limits)) ≡ ramped (pos 200) wide_border = c.in_ok-border.ensures.1 ∙ ap (ramped (pos 200)) e2 in
+    let e4 : ramped c.take.new.self.rate (sheeted given_kind c.take.new.self.below.flows (lowers c.take.new.self.below.limits) (uppers c.take.new.self.below.limits)) ≡ ramped_border = c.in_ok-take.ensures.1 ∙ ap (λ (b : Meaning). took b (pos 5) (pos 200)) e3 in
+    let f : c.margin.result ≡ pos 200 = c.margin.ensures ∙ ramped_forward _ e4 in
+    let g : c.margin-2.result ≡ pos 0 = c.margin-2.ensures ∙ ramped_backward _ e4 in
     simp (c.tradable.ensures, c.tradable-2.ensures, f, g) refl

@@ -1,14 +1,9 @@
 //! The calls that touch neither borders nor logs.
-ghost use Rattle.std.specs.Prelude.{◌≡◌};
-ghost use Rattle.logs.specs.declared.Log.{Log as LogOf};
-ghost use Rattle.book.specs.declared.Deal.{Deal as DealOf};
-ghost use Rattle.book.specs.declared.AcceptedSheet.{AcceptedSheet as SheetOf};
-ghost use Rattle.book.specs.Calls.{CallDid, OnlyStateJudged};
-ghost use Rattle.region.specs.Seen.{seen, limit_call, position_call};
+ghost use Rattle.region.specs.Seen.{DidWithoutLogs, MovedWithoutLogs, limit_call, position_call};
 
 use super::Region;
-use super::judging::{limits_allowed, position_allowed};
-use book::{Answer, Call, RegionFault, ZoneLimit};
+use super::judging::{judged_limit, judged_position};
+use book::{Answer, Call, RegionFault};
 use borders::Bank;
 
 impl<B: Bank> Region<B> {
@@ -20,12 +15,10 @@ impl<B: Bank> Region<B> {
         import: i32,
         export: i32,
     ) -> Result<Answer, RegionFault>
-        ensures { (deals : LogOf DealOf) (sheets : LogOf SheetOf) → CallDid (seen B.Bank.borders self.old deals sheets) (limit_call zone period import export) result (seen B.Bank.borders self.new deals sheets) }
+        ensures { DidWithoutLogs B.Bank.borders self.old (limit_call zone period import export) result self.new }
     {
-        let at = self.zone(zone, period)?;
-        if !limits_allowed(import, export) {
-            return Err(RegionFault::Amount(period));
-        }
+        let slot = self.zone(zone, period)?;
+        let limit = judged_limit(import, export, period)?;
         let call = Call::Limit {
             zone,
             period,
@@ -33,8 +26,9 @@ impl<B: Bank> Region<B> {
             export,
         };
         self.allows(&call, period)?;
-        self.table
-            .give_limit(at, period, ZoneLimit { import, export });
+        self.kept
+            .table
+            .change(slot, |record| record.give_limit(limit));
         Ok(Answer::Done)
     }
 
@@ -45,21 +39,19 @@ impl<B: Bank> Region<B> {
         period: i32,
         mw: i32,
     ) -> Result<Answer, RegionFault>
-        ensures { (deals : LogOf DealOf) (sheets : LogOf SheetOf) → CallDid (seen B.Bank.borders self.old deals sheets) (position_call zone period mw) result (seen B.Bank.borders self.new deals sheets) }
+        ensures { DidWithoutLogs B.Bank.borders self.old (position_call zone period mw) result self.new }
     {
-        let at = self.zone(zone, period)?;
-        if !position_allowed(mw) {
-            return Err(RegionFault::Amount(period));
-        }
+        let slot = self.zone(zone, period)?;
+        let staged = judged_position(mw, period)?;
         let call = Call::Position { zone, period, mw };
         self.allows(&call, period)?;
-        self.table.stage(at, period, mw as i16);
+        self.kept.table.change(slot, |record| record.stage(staged));
         Ok(Answer::Done)
     }
 
     // Moves on to the state after a call that does nothing else.
     pub(crate) fn move_on(&mut self, call: Call) -> Result<Answer, RegionFault>
-        ensures { (deals : LogOf DealOf) (sheets : LogOf SheetOf) → OnlyStateJudged (seen B.Bank.borders self.old deals sheets) call result (seen B.Bank.borders self.new deals sheets) }
+        ensures { MovedWithoutLogs B.Bank.borders self.old call result self.new }
     {
         self.state = self.allows(&call, 0)?;
         Ok(Answer::Done)

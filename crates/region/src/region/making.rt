@@ -1,16 +1,17 @@
 //! Making a region.
-ghost use Rattle.std.specs.Prelude.{◌≡◌, ℕ, ◌<◌, ◌≤◌, MatchOption, MatchResult};
+ghost use Rattle.std.specs.Prelude.{◌≡◌, ℕ, ◌+◌, length, MatchResult};
 ghost use Rattle.logs.specs.declared.Log.{Log as LogOf};
 ghost use Rattle.book.specs.declared.Deal.{Deal as DealOf};
 ghost use Rattle.book.specs.declared.AcceptedSheet.{AcceptedSheet as SheetOf};
+ghost use Rattle.zones.specs.Trees.{zones, up, parent_in};
 ghost use Rattle.borders.specs.Bank.{border_at};
-ghost use Rattle.book.specs.Grounds.{First};
-ghost use Rattle.book.specs.Making.{Fit, UnfitAs, HasFlow, WithoutFlow, FlowTold, as_made};
+ghost use Rattle.book.specs.Making.{Fit, UnfitAs, FlowTold, as_made};
 ghost use Rattle.region.specs.Seen.{seen, logged};
 
 use super::Region;
 use crate::ZoneTable;
-use book::{MakingFault, PERIOD_COUNT, State};
+use crate::kept::KeptZones;
+use book::{MakingFault, PERIODS, State};
 use borders::Bank;
 use zones::Tree;
 
@@ -25,26 +26,23 @@ pub struct Unmade<B> {
 fn has_flow<B: Bank>(bank: &B, border: usize) -> bool
     ensures { FlowTold result (border_at (B.Bank.borders bank.now) border) }
 {
-    for p in 1..PERIOD_COUNT + 1 {
-        if bank.flow(border, p as i32) != 0 {
-            return true;
-        }
-    }
-    false
+    (1..=PERIODS).any(|period| bank.flow(border, period) != 0)
 }
 
-// The lowest of the borders below a number that has a flow.
-fn lowest_with_flow<B: Bank>(bank: &B, below: usize) -> Option<usize>
-    ensures { MatchOption result
-        ((c : ℕ) → 1 ≤ c → c < below → WithoutFlow (border_at (B.Bank.borders bank.now) c))
-        (First (λ c. HasFlow (border_at (B.Bank.borders bank.now) c)) 1 below) }
+// The tree of the zones with these parents, if they and the bank fit together.
+fn fit<B: Bank>(parents: &[usize], bank: &B) -> Result<Tree, MakingFault>
+    ensures { MatchResult result
+        (λ t. Fit parents.now (B.Bank.borders bank.now) × (zones t ≡ length parents.now + 1) × ((z : ℕ) → up t z ≡ parent_in parents.now z))
+        (UnfitAs parents.now (B.Bank.borders bank.now)) }
 {
-    for border in 1..below {
-        if has_flow(bank, border) {
-            return Some(border);
-        }
+    if parents.len() != bank.count() {
+        return Err(MakingFault::Count);
     }
-    None
+    let tree = Tree::new(parents)?;
+    match (1..tree.count()).find(|border| has_flow(bank, *border)) {
+        None => Ok(tree),
+        Some(border) => Err(MakingFault::Flow(border as u8)),
+    }
 }
 
 impl<B: Bank> Region<B> {
@@ -55,32 +53,16 @@ impl<B: Bank> Region<B> {
             (λ x. Fit parents.now (B.Bank.borders bank) × ((deals : LogOf DealOf) (sheets : LogOf SheetOf) → seen B.Bank.borders x deals sheets ≡ as_made parents.now (B.Bank.borders bank) (logged deals) (logged sheets)))
             (λ e. UnfitAs parents.now (B.Bank.borders bank) e.fault × (e.bank ≡ bank)) }
     {
-        if parents.len() != bank.count() {
-            return Err(Unmade {
+        match fit(parents, &bank) {
+            Ok(tree) => Ok(Region {
+                kept: KeptZones {
+                    tree,
+                    table: ZoneTable::new(),
+                },
                 bank,
-                fault: MakingFault::Count,
-            });
+                state: State::Drafting,
+            }),
+            Err(fault) => Err(Unmade { bank, fault }),
         }
-        let tree = match Tree::new(parents) {
-            Ok(tree) => tree,
-            Err(fault) => {
-                return Err(Unmade {
-                    bank,
-                    fault: MakingFault::from(fault),
-                });
-            }
-        };
-        if let Some(border) = lowest_with_flow(&bank, tree.count()) {
-            return Err(Unmade {
-                bank,
-                fault: MakingFault::Flow(border as u8),
-            });
-        }
-        Ok(Region {
-            tree,
-            bank,
-            table: ZoneTable::new(),
-            state: State::Drafting,
-        })
     }
 }

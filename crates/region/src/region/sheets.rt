@@ -48,9 +48,9 @@ impl<B: Bank> Region<B> {
             flow,
             sheet,
         };
-        let Ok(_) = sheets.enter(accepted) else {
-            return Err(RegionFault::Full(period));
-        };
+        sheets
+            .enter(accepted)
+            .map_err(|_| RegionFault::Full(period))?;
         // the border said that it would accept the sheet, so it does
         self.bank.reassess(at, &sheet, period)?;
         Ok(Answer::Done)

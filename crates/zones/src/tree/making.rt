@@ -28,12 +28,13 @@ fn check(parents: &[usize]) -> Result<(), TreeFault>
         (λ _. CountAllowed parents.now × AllowedBelow parents.now (length parents.now + 1))
         (RefusedAs parents.now) }
 {
-    if parents.len() < 1 || parents.len() >= MOST_ZONES {
+    if !(1..MOST_ZONES).contains(&parents.len()) {
         return Err(TreeFault::Count);
     }
-    for i in 0..parents.len() {
-        if parents[i] > i {
-            return Err(TreeFault::Parent((i + 1) as u8));
+    for (i, parent) in parents.iter().enumerate() {
+        let zone = i + 1;
+        if *parent >= zone {
+            return Err(TreeFault::Parent(zone as u8));
         }
     }
     Ok(())
@@ -46,12 +47,11 @@ impl Tree {
         ensures { Made parents.now result }
     {
         check(parents)?;
+        let count = parents.len() + 1;
         let mut table = [0; MOST_ZONES];
-        for i in 0..parents.len() {
-            table[i + 1] = parents[i];
-        }
+        table[1..count].copy_from_slice(parents);
         Ok(Tree {
-            count: parents.len() + 1,
+            count,
             parents: table,
         })
     }

@@ -1,11 +1,11 @@
 //! Questions to the tree.
 ghost use Rattle.std.specs.Prelude.{◌≡◌, ◌<◌, ◌≤◌, true, pos, ◌+ℤ◌, ◌≤ℤ◌};
 ghost use Rattle.zones.specs.Ways.{EachOnce, Leads};
-ghost use Rattle.zones.specs.Trees.{zones, up, is_zone, parent_of, lies_behind_lem, way_of, steps_of, both_zones, flow_in, net_position_lem};
+ghost use Rattle.zones.specs.Trees.{zones, up, is_zone, is_border, parent_of, lies_behind_lem, way_of, steps_of, both_zones, flow_in, net_position_lem};
 
-use super::{MOST_ZONES, Tree};
-use crate::Way;
-use crate::way::MOST_BORDERS;
+use super::Tree;
+use crate::way::{FILLER, MOST_BORDERS, Step, Way};
+use equations::Direction;
 
 // The flow of a border in the flows of borders 1, 2 and so on; 0 where there is none.
 fn flow_of(flows: &[i32], border: usize) -> i64
@@ -13,10 +13,10 @@ fn flow_of(flows: &[i32], border: usize) -> i64
     ensures low { pos 0 ≤ℤ (result +ℤ pos 2147483648) }
     ensures high { result ≤ℤ pos 2147483648 }
 {
-    if border == 0 || border > flows.len() {
+    let Some(place) = border.checked_sub(1) else {
         return 0;
-    }
-    i64::from(flows[border - 1])
+    };
+    flows.get(place).map_or(0, |flow| i64::from(*flow))
 }
 
 impl Tree {
@@ -35,34 +35,34 @@ impl Tree {
         zone < self.count
     }
 
+    // Whether there is such a border.
+    fn has_border(&self, border: usize) -> bool
+        ensures { result ≡ is_border self.now border }
+    {
+        (1..self.count).contains(&border)
+    }
+
     // The parent of a zone; 0 where it has none.
     fn up(&self, zone: usize) -> usize
         ensures value { result ≡ up self.now zone }
         ensures smaller { 1 ≤ zone → result < zone }
     {
-        if zone >= MOST_ZONES {
-            0
-        } else {
-            self.parents[zone]
-        }
+        self.parents.get(zone).copied().unwrap_or(0)
     }
 
     /// The parent of a zone; none for zone 0 and for a zone that does not exist.
     pub fn parent(&self, zone: usize) -> Option<usize>
         ensures { result ≡ parent_of self.now zone }
     {
-        if 0 < zone && self.has(zone) {
-            Some(self.up(zone))
-        } else {
-            None
-        }
+        self.has_border(zone).then_some(self.up(zone))
     }
 
     /// Whether a zone lies behind a border; never where one of them does not exist.
+    #[tactic(auto, using(crate::proofs::Behind::behind_as_parent, crate::proofs::Behind::meeting))]
     pub fn lies_behind(&self, border: usize, zone: usize) -> bool
         ensures { result ≡ lies_behind_lem self.now border zone }
     {
-        if border == 0 || !self.has(border) || !self.has(zone) {
+        if !self.has_border(border) || !self.has(zone) {
             return false;
         }
         let mut at = zone;
@@ -78,33 +78,37 @@ impl Tree {
         ensures once { both_zones self.now seller buyer ≡ true → EachOnce (up self.now) seller buyer (steps_of result) }
         ensures leads { both_zones self.now seller buyer ≡ true → Leads (up self.now) seller (steps_of result) buyer }
     {
-        let mut borders = [0; MOST_BORDERS];
+        let mut steps = [FILLER; MOST_BORDERS];
         if !self.has(seller) || !self.has(buyer) {
-            return Way {
-                borders,
-                selling: 0,
-                buying: 0,
-            };
+            return Way { steps, count: 0 };
         }
-        let mut selling = 0;
-        let mut buying = 0;
-        let mut a = seller;
-        let mut b = buyer;
-        while a != b {
-            if a > b {
-                borders[selling] = a;
-                selling += 1;
-                a = self.up(a);
+        // the way that is left leads from one zone to another: the seller's side is written from the front and the buyer's from the end,
+        // so that both stand in order from the seller
+        let mut front = 0;
+        let mut back = MOST_BORDERS;
+        let mut from = seller;
+        let mut to = buyer;
+        while from != to {
+            if from > to {
+                steps[front] = Step {
+                    border: from,
+                    direction: Direction::Backward,
+                };
+                front += 1;
+                from = self.up(from);
             } else {
-                buying += 1;
-                borders[MOST_BORDERS - buying] = b;
-                b = self.up(b);
+                back -= 1;
+                steps[back] = Step {
+                    border: to,
+                    direction: Direction::Forward,
+                };
+                to = self.up(to);
             }
         }
+        steps.copy_within(back.., front);
         Way {
-            borders,
-            selling,
-            buying,
+            steps,
+            count: front + MOST_BORDERS - back,
         }
     }
 
@@ -117,15 +121,12 @@ impl Tree {
         if !self.has(zone) {
             return 0;
         }
-        let mut sum = 0i64;
+        let mut sum = 0;
         for border in 1..self.count {
             if self.up(border) == zone {
                 sum += flow_of(flows, border);
             }
         }
-        if zone > 0 {
-            sum -= flow_of(flows, zone);
-        }
-        sum
+        sum - flow_of(flows, zone)
     }
 }

@@ -12,26 +12,18 @@ not_positive a e = omega (arith, ints)
 
 pub returns-then-flow-gt0 : goal.returns-then-flow-gt0
 returns-then-flow-gt0 c =
-    let f1 = c.ranges.capacity in
-    let f2 = c.ranges.margin in
-    let f3 = c.ranges.flow in
-    let f4 = c.ranges.power_flow in
-    let k = lefts_fit c.args.capacity c.args.margin c.args.flow c.args.power_flow c.requires.0 c.requires.1 c.requires.2 c.requires.3 in
-    let s1 = k.0 in
-    let s2 = k.1 in
-    let s3 = k.2 in
-    let fm : SFits w64 c.min.result = record { sfits = c.min.type_inv } in
-    let v = simp to_z-of_z at c.min.ensures.value in
-    let near = line_near c.args.capacity c.args.margin c.args.flow c.args.power_flow c.requires.0 c.requires.1 c.requires.2 c.requires.3 in
-    let e = v ∙ sym (with_the_flow c.args.capacity c.args.margin c.args.flow c.args.power_flow (positive c.args.flow (simp to_z-of_z at c.if-flow-gt0.true))) in
-    simp to_z-of_z record { value = e; near = rw e near }
+    let r = c.ranges in
+    let h = c.requires in
+    let k = lefts_fit _ _ _ _ h.0 h.1 h.2 h.3 in
+    let m : SFits w64 c.min.result = record { sfits = c.min.type_inv } in
+    let v = simp (to_z-of_z, r.capacity, r.margin, r.flow, r.power_flow, k.0, k.1, k.2) at c.min.ensures.value in
+    let e = v ∙ sym (with_the_flow _ _ _ _ (positive _ (simp (to_z-of_z, r.flow) at c.if-flow-gt0.true))) in
+    simp to_z-of_z record { value = e; near = rw e (line_near _ _ _ _ h.0 h.1 h.2 h.3) }
 
 pub returns-else-flow-gt0 : goal.returns-else-flow-gt0
 returns-else-flow-gt0 c =
-    let f1 = c.ranges.capacity in
-    let f3 = c.ranges.flow in
-    let f4 = c.ranges.power_flow in
-    let s1 = (lefts_fit c.args.capacity c.args.margin c.args.flow c.args.power_flow c.requires.0 c.requires.1 c.requires.2 c.requires.3).0 in
-    let near = line_near c.args.capacity c.args.margin c.args.flow c.args.power_flow c.requires.0 c.requires.1 c.requires.2 c.requires.3 in
-    let e = sym (against_the_flow c.args.capacity c.args.margin c.args.flow c.args.power_flow (not_positive c.args.flow (simp to_z-of_z at c.if-flow-gt0.false))) in
-    simp to_z-of_z record { value = e; near = rw e near }
+    let r = c.ranges in
+    let h = c.requires in
+    let k = lefts_fit _ _ _ _ h.0 h.1 h.2 h.3 in
+    let e = sym (against_the_flow _ _ _ _ (not_positive _ (simp (to_z-of_z, r.flow) at c.if-flow-gt0.false))) in
+    simp (to_z-of_z, r.capacity, r.power_flow, k.0) record { value = e; near = rw e (line_near _ _ _ _ h.0 h.1 h.2 h.3) }

@@ -7,14 +7,14 @@ use Rattle.equations.specs.declared.sources.Row.{Row}
 use Rattle.equations.specs.Ranges.{between}
 use Rattle.equations.specs.Reserves.{source_allowed, total_power_lem, serving, weighed, reserve_of}
 use Rattle.equations.proofs.Judging.{judged_answer, judged_ok}
+use Rattle.equations.proofs.Ranged.{within}
 use Rattle.equations.proofs.sources.reserve.Goals as goal
 
-whole_allowed : (n : ℕ) (D : ℤ) → n ≤ 8 → pos 0 ≤ℤ D → D ≤ℤ pos 5000 → (leb n 8 && between (pos 0) D (pos 5000)) ≡ true
-whole_allowed n D h k l = grind (arith, ints, nat_tests)
+whole_allowed : (n : ℕ) (D : ℤ) → n ≤ 8 → (pos 0 ≤ℤ D) × (D ≤ℤ pos 5000) → (leb n 8 && between (pos 0) D (pos 5000)) ≡ true
+whole_allowed n D h k = let a = k.0 in let b = k.1 in grind (arith, ints, nat_tests)
 
-pub weigh-requires : goal.weigh-requires
-weigh-requires c =
-    record { few = omega arith; allowed = (judged_ok (λ (p : ℤ). p ≡ total_power_lem c.args.sources.now) true source_allowed c.args.sources.now c.in_ok-power.power refl c.in_ok-power.ensures).0 }
+pub weigh-requires-clause-allowed : goal.weigh-requires-clause-allowed
+weigh-requires-clause-allowed c = (judged_ok (λ (p : ℤ). p ≡ total_power_lem c.args.sources.now) true source_allowed c.args.sources.now c.in_ok-power.power refl c.in_ok-power.ensures).0
 
 pub returns : goal.returns
 returns c =
@@ -27,4 +27,5 @@ returns c =
     let j = judged_ok (λ (p : ℤ). p ≡ total_power_lem ss) true source_allowed ss c.in_ok-power.power refl c.in_ok-power.ensures in
     let row : c.row_for-row.result ≡ serving c.in_ok-power.power D = simp to_z-of_z at c.row_for-row.ensures in
     let e : c.weigh.result ≡ weighed (serving (total_power_lem ss) D) ss = c.weigh.ensures.value ∙ ap (λ (r : Row). weighed r ss) (row ∙ ap (λ (p : ℤ). serving p D) j.1) in
-    simp to_z-of_z (judged_answer (λ (x : ℤ). x ≡ reserve_of ss D) (leb (length ss) 8 && between (pos 0) D (pos 5000)) source_allowed ss (quot_z c.weigh.result (pos 100)) (whole_allowed (length ss) D (omega arith) (omega (arith, ints)) (omega (arith, ints))) j.0 (ap (λ (x : ℤ). quot_z x (pos 100)) e))
+    let b = within _ _ _ _ D _ c.new.ensures.start c.new.ensures.end c.new.ensures.exhausted (simp to_z-of_z at c.if-not-contains.ensures.value) in
+    simp to_z-of_z (judged_answer (λ (x : ℤ). x ≡ reserve_of ss D) (leb (length ss) 8 && between (pos 0) D (pos 5000)) source_allowed ss (quot_z c.weigh.result (pos 100)) (whole_allowed (length ss) D (omega arith) b) j.0 (ap (λ (x : ℤ). quot_z x (pos 100)) e))

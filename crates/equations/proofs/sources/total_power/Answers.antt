@@ -1,26 +1,14 @@
-use Rattle.std.proofs.Common.{◌≡◌, ℕ, ◌<◌, true, false, List, length, get_or, ℤ, sym, refl, ap, ◌∙◌, arith, w32, SFits}
-use Rattle.std.proofs.lemmas.List.{take_all}
+use Rattle.std.proofs.Common.{◌≡◌, ℕ, ◌<◌, true, List, length, get_or, sym, ◌∙◌, arith, w32, SFits}
 use Rattle.std.proofs.lemmas.Int.{ints, to_z-of_z}
-use Rattle.std.proofs.lemmas.List.Sums.{prefix_len-drop_yes, prefix_len-drop_no, prefix_len-drop_all}
-use Rattle.std.specs.List.{prefix_len}
+use Rattle.std.proofs.lemmas.List.Sums.{prefix_len-drop_yes}
 use Rattle.equations.specs.declared.sources.Source.{Source}
-use Rattle.equations.specs.Reserves.{source_allowed, total_power_lem}
-use Rattle.equations.proofs.Judging.{judged_entry, judged_answer}
+use Rattle.equations.specs.Reserves.{source_allowed}
 use Rattle.equations.proofs.Sourced.{blank, power_between}
 use Rattle.equations.proofs.Totals.{total_none, total_more}
 use Rattle.equations.proofs.sources.total_power.Goals as goal
 
 pub loop-i-init : goal.loop-i-init
 loop-i-init c = (sym (total_none (λ (s : Source). s.power)), omega arith, omega (arith, ints), omega (arith, ints))
-
-pub returns-then-not-in_bounds : goal.returns-then-not-in_bounds
-returns-then-not-in_bounds c =
-    let ss : List Source = c.args.sources.now in
-    let i : ℕ = c.loop-i.i in
-    let h : i < length ss = omega arith in
-    let out : source_allowed (get_or ss i blank) ≡ false = sym c.in_bounds.ensures ∙ c.if-not-in_bounds.true in
-    let l : prefix_len source_allowed ss ≡ i = omega (arith, prefix_len-drop_no source_allowed ss i blank h out) in
-    judged_entry (λ (p : ℤ). p ≡ total_power_lem ss) true source_allowed ss i refl l h
 
 pub loop-i-preserved : goal.loop-i-preserved
 loop-i-preserved c =
@@ -33,12 +21,3 @@ loop-i-preserved c =
     let a = total_more (λ (s : Source). s.power) ss i blank h in
     let l = prefix_len-drop_yes source_allowed ss i blank h ok in
     simp to_z-of_z (omega (arith, ints), omega arith, omega (arith, ints), omega (arith, ints))
-
-pub returns : goal.returns
-returns c =
-    let ss : List Source = c.args.sources.now in
-    let i : ℕ = c.loop-i.i in
-    let all = take_all i ss c.loop-i-test.false in
-    let e = c.loop-i.invariant.0 ∙ ap total_power_lem all in
-    let l : prefix_len source_allowed ss ≡ length ss = omega (arith, prefix_len-drop_all source_allowed ss i c.loop-i-test.false) in
-    judged_answer (λ (p : ℤ). p ≡ total_power_lem ss) true source_allowed ss _ refl l e

@@ -1,10 +1,11 @@
-use Rattle.std.proofs.Common.{◌≡◌, ℕ, ◌<◌, true, List, length, get_or, ℤ, pos, ◌*ℤ◌, ◌≤ℤ◌, sym, ap, ◌∙◌, subst, arith, w32, SFits}
-use Rattle.std.proofs.lemmas.List.{take_all}
+use Rattle.std.proofs.Common.{◌≡◌, ℕ, ◌<◌, true, List, get_or, ℤ, pos, ◌*ℤ◌, ◌≤ℤ◌, sym, ap, subst, arith, w32, SFits}
 use Rattle.std.proofs.lemmas.Int.{ints, to_z-of_z}
+use Rattle.std.proofs.lemmas.List.Sums.{prefix_len_passes}
+use Rattle.std.specs.List.{prefix_len}
 use Rattle.equations.specs.declared.sources.Source.{Source}
 use Rattle.equations.specs.declared.sources.Row.{Row}
-use Rattle.equations.specs.Reserves.{source_allowed, coefficient, weighed}
-use Rattle.equations.proofs.Sourced.{blank, power_between, coefficient_between, product_between, all_pass}
+use Rattle.equations.specs.Reserves.{source_allowed, coefficient}
+use Rattle.equations.proofs.Sourced.{blank, power_between, coefficient_between, product_between}
 use Rattle.equations.proofs.Totals.{total_none, total_more}
 use Rattle.equations.proofs.sources.weigh.Goals as goal
 
@@ -30,38 +31,22 @@ turn row s k ok e =
     within : (x : ℤ) → pos 0 ≤ℤ x → x ≤ℤ pos 500000 → SFits w32 x
     within x h l = omega (arith, ints)
 
-this_turn : (c : goal.After-sum-1) → Turn c.args.row (get_or c.args.sources.now c.loop-source.source-index blank) c.coefficient_of.result
-this_turn c = turn c.args.row (get_or c.args.sources.now c.loop-source.source-index blank) c.coefficient_of.result (all_pass source_allowed c.args.sources.now blank c.requires.allowed c.loop-source.source-index c.loop-source-test.true) c.coefficient_of.ensures
+this_turn : (c : goal.After-sum-1) → Turn c.args.row (get_or c.args.sources.now c.loop-source.source-index blank) c.coefficient.result
+this_turn c =
+    let h : c.loop-source.source-index < prefix_len source_allowed c.args.sources.now = omega (arith, c.requires.allowed) in
+    turn c.args.row _ _ (prefix_len_passes source_allowed c.args.sources.now c.loop-source.source-index blank h) c.coefficient.ensures
 
 pub overflow_mul-sum : goal.overflow_mul-sum
-overflow_mul-sum c =
-    let t = this_turn c in
-    let f1 = t.small in
-    let f2 = t.power in
-    simp to_z-of_z t.product
+overflow_mul-sum c = let t = this_turn c in simp (to_z-of_z, t.small, t.power) t.product
 
 pub overflow_add-sum : goal.overflow_add-sum
-overflow_add-sum c =
-    let t = this_turn c in
-    let f1 = t.small in
-    let f2 = t.power in
-    let f3 = t.product in
-    simp to_z-of_z (omega (arith, ints))
+overflow_add-sum c = let t = this_turn c in simp (to_z-of_z, t.small, t.power, t.product) (omega (arith, ints))
 
 pub loop-source-preserved : goal.loop-source-preserved
 loop-source-preserved c =
     let ss : List Source = c.args.sources.now in
     let i : ℕ = c.loop-source.source-index in
     let t = this_turn c in
-    let f1 = t.small in
-    let f2 = t.power in
-    let f3 = t.product in
-    let h : i < length ss = omega arith in
-    let m = total_more (λ (s : Source). coefficient c.args.row s *ℤ s.power) ss i blank h in
+    let m = total_more (λ (s : Source). coefficient c.args.row s *ℤ s.power) ss i blank c.loop-source-test.true in
     let e = ap (λ (k : ℤ). k *ℤ (get_or ss i blank).power) t.same in
-    simp to_z-of_z (omega (arith, ints), omega (arith, ints), omega (arith, ints))
-
-pub returns : goal.returns
-returns c =
-    let all = take_all c.loop-source.source-index c.args.sources.now c.loop-source-test.false in
-    record { value = c.loop-source.invariant.0 ∙ ap (weighed c.args.row) all; least = c.loop-source.invariant.1 }
+    simp (to_z-of_z, t.small, t.power, t.product) (omega (arith, ints), omega (arith, ints), omega (arith, ints))

@@ -1,8 +1,7 @@
--- The lines before `line` write the deviations so far.
-use Rattle.std.proofs.Common.{◌-◌, vec_items}
-use Rattle.text.specs.Lines.{lines}
-use Rattle.margin_file.proofs.Reading.{Read}
+-- The lines so far write the deviations so far.
+use Rattle.std.proofs.Common.{length, take, vec_items}
+use Rattle.margin_file.specs.Samples.{read_lines, Written}
 use Rattle.margin_file.proofs.sample.read_deviations.Given as goal
 
 abbrev pub invariant-loop-line : goal.invariant-loop-line
-invariant-loop-line l = Read (lines l.file) (lines l.lines.rest.now) (vec_items l.deviations) (l.line - 1)
+invariant-loop-line l = Written (take (length l.yielded) (read_lines l.file)) (vec_items l.deviations)

@@ -1,45 +1,21 @@
-use Rattle.std.proofs.Common.{[], ◌∷◌, refl, arith}
+use Rattle.std.proofs.Common.{◌≡◌, ℤ, set, ap, ◌∙◌, rules}
 use Rattle.std.proofs.lemmas.Int.{to_z-of_z}
-use Rattle.zones.specs.Trees.{zones}
-use Rattle.book.specs.Grounds.{no_period, no_zone, bad_amount, wrong_state}
-use Rattle.book.specs.Limits.{PositionAllowed}
-use Rattle.book.proofs.Orders.{refused, refused_early, zone_clear, amount_clear, state_clear}
-use Rattle.region.proofs.Kept.{only_record}
-use Rattle.region.proofs.Nets.{position_fits}
+use Rattle.book.specs.Limits.{PositionAllowed, staged_anew}
+use Rattle.book.specs.Views.{record_in, slot}
+use Rattle.region.proofs.Records.{record_changed}
 use Rattle.region.specs.Seen.{seen, position_call}
 use Rattle.region.proofs.region.Region.position.Goals as goal
-
-pub returns-in_err-at : goal.returns-in_err-at
-returns-in_err-at g c deals sheets =
-    let fz = c.ranges.zone in
-    let fp = c.ranges.period in
-    let v = seen g.B.Bank.borders c.args.self.now deals sheets in
-    let call = position_call c.args.zone c.args.period c.args.mw in
-    refused v call c.from_residual.result c.in_err-at.field-0.0 c.from_residual.ensures.1
-    (refused_early (no_period c.args.period ∷ no_zone (zones c.args.self.now.tree) c.args.zone c.args.period ∷ []) (bad_amount (PositionAllowed c.args.mw) c.args.period ∷ wrong_state v call c.args.period ∷ []) c.in_err-at.field-0.0
-    (simp to_z-of_z at c.in_err-at.ensures))
 
 pub returns : goal.returns
 returns g c deals sheets =
     let fz = c.ranges.zone in
     let fp = c.ranges.period in
     let fm = c.ranges.mw in
+    let found = simp to_z-of_z at c.in_ok-slot.ensures in
+    let judged = simp to_z-of_z at c.in_ok-staged.ensures in
     let v = seen g.B.Bank.borders c.args.self.now deals sheets in
-    let call = position_call c.args.zone c.args.period c.args.mw in
-    let there = simp to_z-of_z at c.in_ok-at.ensures in
-    let allowed = simp to_z-of_z at (c.if-not-position_allowed.ensures.0 refl) in
-    let clear = zone_clear (zones c.args.self.now.tree) c.args.zone c.args.period there.0 there.1 in
-    let f16 = position_fits c.args.mw allowed in
-    let filled = simp to_z-of_z at c.stage.ensures.changed in (
-      (
-        clear.0,
-        (
-          clear.1.0,
-          (
-            amount_clear (PositionAllowed c.args.mw) c.args.period allowed,
-            (state_clear v call c.args.period c.in_ok-allows.field-0 c.in_ok-allows.ensures, tt),
-          ),
-        ),
-      ),
-      (refl, only_record v _ _ c.args.period _ c.stage.ensures.many (let few = c.args.self.now.tree.few in let in_tree = there.3 in omega arith) there.0 (rw there.2 at filled)),
-    )
+    let s = c.in_ok-slot.slot in
+    let anew = λ (x : ℤ). set v.records (slot s.zone s.period) (staged_anew (record_in v.records s.zone s.period) x) in
+    let changed : c.change.new.self.records ≡ anew c.in_ok-staged.staged = search rules in
+    record_changed v (position_call c.args.zone c.args.period c.args.mw) c.args.zone c.args.period s (PositionAllowed c.args.mw) c.in_ok-allows.field-0 _ (λ r. staged_anew r (c.args.mw))
+    found judged.0 c.in_ok-allows.ensures c.change.ensures.many (changed ∙ ap anew judged.1)

@@ -1,7 +1,11 @@
-use Rattle.std.proofs.Common.{◌≡◌, pos, ◌-ℤ◌, neg_ℤ, ap, ◌∙◌, arith, w32, w64, SFits, rules}
+use Rattle.std.proofs.Common.{◌≡◌, ℤ, pos, ◌-ℤ◌, neg_ℤ, ◌∙◌, arith, w32, w64, SFits, rules}
 use Rattle.std.specs.Int.{int_max}
-use Rattle.std.proofs.lemmas.Int.{ints, to_z-of_z}
+use Rattle.std.proofs.lemmas.Int.{ints, clamps, to_z-of_z}
 use Rattle.region.proofs.region.asking.overrun.Goals as goal
+
+-- the larger of both distances, or 0
+beyond : (n e i m r : ℤ) → m ≡ int_max (n -ℤ e) ((pos 0 -ℤ i) -ℤ n) → r ≡ int_max m (pos 0) → r ≡ int_max (pos 0) (int_max (n -ℤ e) (neg_ℤ i -ℤ n))
+beyond n e i m r d f = omega (arith, ints, clamps)
 
 pub returns-in-Some : goal.returns-in-Some
 returns-in-Some c =
@@ -19,7 +23,9 @@ returns-in-Some c =
     let f3 : SFits w64 (pos 0 -ℤ c.from-in-Some.result) = omega (arith, ints) in
     let f4 : SFits w64 (n -ℤ c.from.result) = omega (arith, ints) in
     let f5 : SFits w64 ((pos 0 -ℤ c.from-in-Some.result) -ℤ n) = omega (arith, ints) in
-    let fr : SFits w64 c.largest.result = record { sfits = c.largest.type_inv } in
-    let found = simp to_z-of_z at c.largest.ensures in
-    let turned : (pos 0 -ℤ l.import) -ℤ n ≡ neg_ℤ l.import -ℤ n = omega (arith, ints) in
-    rw c.in-Some.is (to_z-of_z w64 c.largest.result fr ∙ (rw (export, import) at found) ∙ ap (λ x. int_max (pos 0) (int_max (n -ℤ l.export) x)) turned)
+    let fm : SFits w64 c.max.result = record { sfits = c.max.type_inv } in
+    let fr : SFits w64 c.max-in-Some.result = record { sfits = c.max-in-Some.type_inv } in
+    let most = simp to_z-of_z at c.max.ensures.value in
+    let found = simp to_z-of_z at c.max-in-Some.ensures.value in
+    let turned = beyond n l.export l.import c.max.result c.max-in-Some.result (rw (export, import) at most) found in
+    rw c.in-Some.is (to_z-of_z w64 c.max-in-Some.result fr ∙ turned)

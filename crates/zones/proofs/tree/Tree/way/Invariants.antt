@@ -3,8 +3,8 @@ use Rattle.zones.specs.Trees.{up}
 use Rattle.zones.proofs.Climb.{Climbing}
 use Rattle.zones.proofs.tree.Tree.way.Given as goal
 
-abbrev pub invariant-loop-a : goal.invariant-loop-a
-invariant-loop-a l = Climbing (up l.self) l.seller l.buyer l.a l.b l.borders l.selling l.buying
+abbrev pub invariant-loop-from : goal.invariant-loop-from
+invariant-loop-from l = Climbing (up l.self) l.seller l.buyer l.from l.to l.steps l.front l.back
 
-abbrev pub decreases-loop-a : goal.decreases-loop-a
-decreases-loop-a l = l.a + l.b
+abbrev pub decreases-loop-from : goal.decreases-loop-from
+decreases-loop-from l = l.from + l.to

@@ -1,6 +1,0 @@
-use Rattle.book.specs.Grounds.{staged_in_all_lem}
-use Rattle.region.proofs.Staging.{Added}
-use Rattle.region.proofs.region.Region.staged_in_all.Given as goal
-
-abbrev pub invariant-loop-zone : goal.invariant-loop-zone
-invariant-loop-zone g l = Added l.zone l.sum (staged_in_all_lem l.zone l.self.table.records l.period)
