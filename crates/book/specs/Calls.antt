@@ -40,7 +40,7 @@ pub record OnlyRecord (v w : View) (z : ℕ) (p : ℤ) (r : ZoneRecord) : Type 0
   pub many : length w.records ≡ length v.records
   pub rest : w ≡ with_records v w.records
 
--- a record joins a log as the last
+-- a record joins a log as the last: it takes the first free place of the memory, and all other memory stays
 abbrev pub joined : {X : Type 0} → Logged X → X → Logged X
 joined l x = record { memory = slice_set l.memory l.count x; count = l.count + 1 }
 

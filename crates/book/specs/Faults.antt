@@ -1,10 +1,11 @@
 -- What each fault of a region tells, by case.
-use Rattle.std.specs.Prelude.{ℕ, min, ℤ, pos}
+use Rattle.std.specs.Prelude.{◌≡◌, ℕ, min, ℤ, pos, refl}
 use Rattle.equations.specs.Grounds.{tells}
 use Rattle.equations.specs.declared.fault.Told.{Told}
 use Rattle.borders.specs.declared.BorderFault.{BorderFault}
 use Rattle.borders.specs.declared.BorderFault.TheVariants.{Take, Adopt, Reassess}
 use Rattle.borders.specs.declared.bank.BankFault.{BankFault}
+use Rattle.zones.specs.Trees.{told as tree_told}
 use Rattle.zones.specs.declared.tree.TreeFault.{TreeFault}
 use Rattle.zones.specs.declared.tree.TreeFault.TheVariants.{Count as TreeCount, Parent as TreeParent}
 use Rattle.book.specs.declared.fault.MakingFault.{MakingFault}
@@ -54,3 +55,8 @@ abbrev pub unmade_told : MakingFault → Told
 unmade_told Count = tells 8 (pos 0) (pos 0)
 unmade_told (Parent z) = tells 8 (pos z) (pos 0)
 unmade_told (Flow c) = tells 8 (pos c) (pos 0)
+
+-- a refused tree tells the same inside the refusal of a region
+pub lifting_keeps_what_is_told : (f : TreeFault) → unmade_told (of_tree f) ≡ tree_told f
+lifting_keeps_what_is_told TreeCount = refl
+lifting_keeps_what_is_told (TreeParent z) = refl

@@ -5,3 +5,5 @@ pub mod Limits
 pub mod Grounds
 pub mod Calls
 pub mod Making
+pub mod Book
+pub mod Day

@@ -3,6 +3,8 @@ use Rattle.std.specs.Prelude.{◌≡◌, ℕ, ◌+◌, ◌*◌, ◌≤◌, Bool,
 use Rattle.borders.specs.Border.{Meaning, flow_of}
 use Rattle.borders.specs.Bank.{border_at}
 use Rattle.zones.specs.Trees.{parent_in, CountAllowed, ParentAllowed, AllowedBelow}
+use Rattle.equations.specs.Grounds.{tells}
+use Rattle.book.specs.Faults.{unmade_told}
 use Rattle.book.specs.declared.fault.MakingFault.{MakingFault}
 use Rattle.book.specs.declared.fault.MakingFault.TheVariants.{Count, Parent, Flow}
 use Rattle.book.specs.declared.state.State.TheVariants.{Drafting}
@@ -27,12 +29,13 @@ abbrev pub FlowTold : Bool → Meaning → Type 0
 FlowTold true b = HasFlow b
 FlowTold false b = WithoutFlow b
 
--- when each fault is told: both counts are judged first, then the parents, then the borders, of which the lowest are told
--- (`unmade_told` gives the number, place and period of each)
+-- when each fault is told, and what it tells: both counts are judged first, then the parents, then the borders, of which the lowest are told
 abbrev pub UnfitAs : List ℕ → List Meaning → MakingFault → Type 0
-UnfitAs given bs Count = CountsFit given bs → ⊥
-UnfitAs given bs (Parent z) = CountsFit given bs × (1 ≤ z) × (z ≤ length given) × (ParentAllowed given z → ⊥) × AllowedBelow given z
-UnfitAs given bs (Flow c) = CountsFit given bs × AllowedBelow given (length given + 1) × First (λ d. HasFlow (border_at bs d)) 1 (length given + 1) c
+UnfitAs given bs Count = (CountsFit given bs → ⊥) × (unmade_told Count ≡ tells 8 (pos 0) (pos 0))
+UnfitAs given bs (Parent z) =
+    CountsFit given bs × (1 ≤ z) × (z ≤ length given) × (ParentAllowed given z → ⊥) × AllowedBelow given z × (unmade_told (Parent z) ≡ tells 8 (pos z) (pos 0))
+UnfitAs given bs (Flow c) =
+    CountsFit given bs × AllowedBelow given (length given + 1) × First (λ d. HasFlow (border_at bs d)) 1 (length given + 1) c × (unmade_told (Flow c) ≡ tells 8 (pos c) (pos 0))
 
 -- a region as made: nothing staged, no limits, in Drafting
 abbrev pub as_made : List ℕ → List Meaning → Logged Deal → Logged AcceptedSheet → View

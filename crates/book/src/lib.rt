@@ -11,11 +11,11 @@ use borders::Sheet;
 pub use fault::{MakingFault, RegionFault};
 pub use state::State;
 
-/// How many periods a delivery day has; the last one's number.
-pub const PERIODS: i32 = 24;
+/// How many periods a delivery day has.
+pub const PERIOD_COUNT: usize = borders::PERIODS;
 
-/// The same as a count.
-pub const PERIOD_COUNT: usize = PERIODS as usize;
+/// The same as a number of a period: the last one's.
+pub const PERIODS: i32 = PERIOD_COUNT as i32;
 
 /// How much a zone may import and export in a period, in MW: its net position lies between −import and export.
 #[derive(Clone, Copy, PartialEq, Eq, Debug)]

@@ -1,5 +1,5 @@
 //! The states of a day.
-ghost use Rattle.std.specs.Prelude.{◌≡◌, Decides};
+ghost use Rattle.std.specs.Prelude.{◌≡◌, IsTrue, ◌↔◌};
 ghost use Rattle.book.specs.States.{state_after, OpenWithResult, open_capacity};
 
 use crate::Call;
@@ -18,7 +18,7 @@ pub enum State {
 impl State {
     /// Whether a day-ahead result has been adopted and the day is still open.
     pub fn has_result(self) -> bool
-        ensures { Decides result (OpenWithResult self) }
+        ensures { IsTrue result ↔ OpenWithResult self }
     {
         matches!(self, State::Matched | State::Trading)
     }

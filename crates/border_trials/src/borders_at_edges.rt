@@ -90,9 +90,7 @@ fn wide() -> Result<Sheeted<Given>, Fail> {
 
 #[test]
 fn ramp_at_the_ends_of_the_day(rt: HostRuntime) -> Result<(), Fail> {
-    let Ok(mut border) = Ramp::new(100, wide()?) else {
-        return Err(Fail::new("rate refused"));
-    };
+    let mut border = Ramp::new(100, wide()?).map_err(|_| Fail::new("rate refused"))?;
     let takes = [
         (0, 1, Err(BorderFault::Take(0))),
         (25, -1, Err(BorderFault::Take(0))),
@@ -146,12 +144,8 @@ fn overrun_after_a_derating(rt: HostRuntime) -> Result<(), Fail> {
 #[test]
 fn ramp_over_a_ramp(rt: HostRuntime) -> Result<(), Fail> {
     for (lower, upper) in [(50, 100), (100, 50)] {
-        let Ok(ramp) = Ramp::new(lower, wide()?) else {
-            return Err(Fail::new("rate refused"));
-        };
-        let Ok(mut border) = Ramp::new(upper, ramp) else {
-            return Err(Fail::new("rate refused"));
-        };
+        let ramp = Ramp::new(lower, wide()?).map_err(|_| Fail::new("rate refused"))?;
+        let mut border = Ramp::new(upper, ramp).map_err(|_| Fail::new("rate refused"))?;
         assert_eq!(rt; border.take(12, 51), Err(BorderFault::Take(50)));
         border.take(12, 50)?;
         assert_eq!(rt; border.margin(Backward, 11), 0);
@@ -198,9 +192,7 @@ fn limits_follow_the_sheet(rt: HostRuntime) -> Result<(), Fail> {
 
 #[test]
 fn borders_of_different_makes(rt: HostRuntime) -> Result<(), Fail> {
-    let Ok(shut) = Ramp::new(1, Shut) else {
-        return Err(Fail::new("rate refused"));
-    };
+    let shut = Ramp::new(1, Shut).map_err(|_| Fail::new("rate refused"))?;
     let mut bank = Pair {
         first: shut,
         rest: Pair {

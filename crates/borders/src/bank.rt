@@ -1,5 +1,5 @@
 //! The bank: borders of different makes by value, in nested pairs, told by number from 1.
-ghost use Rattle.std.specs.Prelude.{◌≡◌, ℕ, min, List, [], ◌∷◌, length, ℤ, pos, Decides};
+ghost use Rattle.std.specs.Prelude.{◌≡◌, ℕ, min, List, [], ◌∷◌, length, ℤ, pos, IsTrue, ◌↔◌};
 ghost use Rattle.borders.specs.Border.{Meaning, flow_of, margin_in, passing, Admitted};
 ghost use Rattle.borders.specs.Answers.{MayTake, MayAdopt, MayReassess, TakeAnswer, AdoptAnswer, ReassessAnswer};
 ghost use Rattle.borders.specs.Laws.{Known, AllKnown};
@@ -50,7 +50,7 @@ pub trait Bank {
         ensures { result ≡ passing (border_at (borders self.now) border) sheet.now period };
 
     fn admits(&self, border: usize, schedule: &[i32]) -> bool
-        ensures { Decides result (Admitted (border_at (borders self.now) border) schedule.now) };
+        ensures { IsTrue result ↔ Admitted (border_at (borders self.now) border) schedule.now };
 
     fn may_take_at(&self, border: usize, period: i32, m: i32) -> Result<(), BorderFault>
         ensures { MayTake (border_at (borders self.now) border) period m result };
@@ -191,6 +191,7 @@ impl Bank for NoBorders {
     }
 }
 
+// The borders after the first are numbered from 1 again; 0 stays 0 to the end of the bank, where no border has it.
 impl<B: Border, R: Bank> Bank for Pair<B, R> {
     ghost borders = { λ b. B.Border.meaning b.first ∷ R.Bank.borders b.rest };
 

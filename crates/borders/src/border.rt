@@ -1,5 +1,5 @@
 //! The interface of a border, its meaning and its laws.
-ghost use Rattle.std.specs.Prelude.{◌≡◌, ℤ, pos, Decides, unsigned_abs};
+ghost use Rattle.std.specs.Prelude.{◌≡◌, ℤ, pos, IsTrue, ◌↔◌, unsigned_abs};
 ghost use Rattle.equations.specs.Ranges.{between};
 ghost use Rattle.borders.specs.Border.{Meaning, days_length, flow_of, margin_in, direction_of, passing, Admitted};
 ghost use Rattle.borders.specs.Laws.{Known};
@@ -48,7 +48,7 @@ pub trait Border {
 
     /// Whether a schedule would be adopted.
     fn admits(&self, schedule: &[i32]) -> bool
-        ensures { Decides result (Admitted (meaning self.now) schedule.now) };
+        ensures { IsTrue result ↔ Admitted (meaning self.now) schedule.now };
 
     /// Whether m can be taken in a period, or the refusal that a take would meet.
     fn may_take(&self, period: i32, m: i32) -> Result<(), BorderFault>

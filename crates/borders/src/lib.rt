@@ -13,6 +13,9 @@ pub use border::Border;
 use equations::{Direction, Side};
 pub use ramp::{Over, Ramp, RateRefused};
 
+/// How many periods a delivery day has.
+pub const PERIODS: usize = 24;
+
 /// A sheet for one border and period: the figures of each direction, the power flow (forward positive) and the number of circuits.
 #[derive(Clone, Copy, PartialEq, Eq, Debug)]
 pub struct Sheet {

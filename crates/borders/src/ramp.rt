@@ -36,7 +36,7 @@ impl<B> RateRefused<B> {
     }
 }
 
-/// A border that stands over another and caps its limits by a rate.
+/// A border that stands over another and caps its limits by a rate. A trait on `Border`, so that the maker's contract can cite the make's own meaning.
 pub trait Over<B: Border>: Border {
     /// A ramp over a border, or the refusal of its rate.
     fn new(rate: i32, below: B) -> Result<Self, RateRefused<B>>

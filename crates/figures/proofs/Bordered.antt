@@ -1,14 +1,21 @@
 -- The borders of the worked figures: what each is after its calls.
-use Rattle.std.proofs.Common.{◌≡◌, ℤ, pos, neg_ℤ, ap, ◌∙◌, inl, arith}
+use Rattle.std.proofs.Common.{◌≡◌, ℤ, pos, neg_ℤ, IsOk, Ok, Err, Result, refl, ap, ◌∙◌, inl, arith}
 use Rattle.std.proofs.lemmas.Int.{ints}
 use Rattle.borders.specs.declared.Sheet.{Sheet}
 use Rattle.borders.specs.Day.{figure_in}
 use Rattle.borders.specs.Limits.{capped_by, lifted_by}
+use Rattle.borders.specs.Answers.{TakeAnswer}
+use Rattle.borders.specs.declared.BorderFault.{BorderFault}
 use Rattle.borders.specs.Border.{Meaning, Stated, CanTake, forward_of, backward_of, ramped}
 use Rattle.figures.specs.Worked.{cable_kind, given_kind, new, resheeted, cable_sheet_lem, wide_sheet_lem, derated_cable_lem, ramped_border}
 
 pub sheeted_again : (kind : Stated) (p : ℤ) (was new known : Meaning) (t u : Sheet) → new ≡ resheeted kind was t p → was ≡ known → t ≡ u → new ≡ resheeted kind known u p
 sheeted_again kind p was new known t u e d f = e ∙ ap (λ (b : Meaning). resheeted kind b t p) d ∙ ap (λ (s : Sheet). resheeted kind known s p) f
+
+-- a move that can be taken is
+pub take_accepted : (b after : Meaning) (p m : ℤ) (r : Result (Unit {0}) BorderFault) → CanTake b p m → TakeAnswer b p m r after → IsOk r
+take_accepted b after p m (Ok u) can answer = refl
+take_accepted b after p m (Err e) can answer = absurd (answer.0 can)
 
 -- the cable before it is derated
 abbrev pub full_cable : Meaning

@@ -1,52 +1,26 @@
 //! The worked figures: one list, computed, and shown to follow from the written rules.
 #![tactic(auto)]
 
-ghost use Rattle.std.specs.Prelude.{◌≡◌, neg_ℤ, MatchResult};
+ghost use Rattle.std.specs.Prelude.{◌≡◌, neg_ℤ};
 ghost use Rattle.std.specs.Int.{int_min};
 ghost use Rattle.equations.specs.Capacities.{net_capacity, cut_at_0};
 ghost use Rattle.equations.specs.declared.capacity.Direction.TheVariants.{Forward};
 ghost use Rattle.figures.specs.Worked.{GivenBy, rules, expected, expected_margins, expected_reserves, expected_settlements, expected_lines, expected_cable, expected_ramp, cable_sheet_lem, wide_sheet_lem, two_capacities_lem, full_source_lem};
 
-use borders::{Border, BorderFault, Over, Ramp, RateRefused, Sheet};
-use equations::{Direction, FigureFault, Formula, OneWay, Side, Source, cut, margin, reserve};
+use borders::{Border, Over, Ramp, Sheet};
+use equations::{Direction, Formula, OneWay, Side, Source, cut, margin, reserve};
 use kinds::{Cable, Given, Made, Sheeted};
 
-/// Why a figure could not be worked out, which never happens.
-#[derive(Clone, Copy)]
-pub enum Unworked {
-    Figure(FigureFault),
-    Border(BorderFault),
-    Rate,
-}
-
-impl From<FigureFault> for Unworked {
-    fn from(fault: FigureFault) -> Unworked {
-        Unworked::Figure(fault)
-    }
-}
-
-impl<B: Drop> From<RateRefused<B>> for Unworked {
-    fn from(_fault: RateRefused<B>) -> Unworked {
-        Unworked::Rate
-    }
-}
-
-impl From<BorderFault> for Unworked {
-    fn from(fault: BorderFault) -> Unworked {
-        Unworked::Border(fault)
-    }
-}
-
 // The margins of four lists of deviations.
-fn margins() -> Result<[i64; 4], FigureFault>
-    ensures { MatchResult result (λ figures. figures ≡ expected_margins) (λ _. ⊥) }
+fn margins() -> [i64; 4]
+    ensures { result ≡ expected_margins }
 {
-    Ok([
-        i64::from(margin(&[10, 20, 30])?),
-        i64::from(margin(&[1, 2])?),
-        i64::from(margin(&[1, 1, 1, -1])?),
-        i64::from(margin(&[-5, -5])?),
-    ])
+    [
+        i64::from(margin(&[10, 20, 30]).unwrap()),
+        i64::from(margin(&[1, 2]).unwrap()),
+        i64::from(margin(&[1, 1, 1, -1]).unwrap()),
+        i64::from(margin(&[-5, -5]).unwrap()),
+    ]
 }
 
 // A source that gives reserve in row 100 alone.
@@ -62,15 +36,15 @@ fn full_source(power: i32, coefficient: i32) -> Source
 }
 
 // The reserves of two lists of sources.
-fn reserves() -> Result<[i64; 2], FigureFault>
-    ensures { MatchResult result (λ figures. figures ≡ expected_reserves) (λ _. ⊥) }
+fn reserves() -> [i64; 2]
+    ensures { result ≡ expected_reserves }
 {
     let both = [full_source(100, 62), full_source(250, 74)];
     let one = [full_source(101, 62)];
-    Ok([
-        i64::from(reserve(&both, 350)?),
-        i64::from(reserve(&one, 101)?),
-    ])
+    [
+        i64::from(reserve(&both, 350).unwrap()),
+        i64::from(reserve(&one, 101).unwrap()),
+    ]
 }
 
 // The side of a sheet with two capacities and nothing else.
@@ -171,49 +145,49 @@ fn beyond(forward: i32, backward: i32) -> i64
 }
 
 // The overrun of a cable after a sheet below its flow, and what may be traded over it forward and backward.
-fn derated_cable() -> Result<[i64; 3], Unworked>
-    ensures { MatchResult result (λ figures. figures ≡ expected_cable) (λ _. ⊥) }
+fn derated_cable() -> [i64; 3]
+    ensures { result ≡ expected_cable }
 {
     let mut border = Sheeted::<Cable>::make();
-    border.reassess(&cable_sheet(500, 500), 1)?;
-    border.take(1, 400)?;
-    border.reassess(&cable_sheet(300, 500), 1)?;
+    border.reassess(&cable_sheet(500, 500), 1).unwrap();
+    border.take(1, 400).unwrap();
+    border.reassess(&cable_sheet(300, 500), 1).unwrap();
     let forward = border.margin(Direction::Forward, 1);
     let backward = border.margin(Direction::Backward, 1);
-    Ok([
+    [
         beyond(forward, backward),
         tradable(forward),
         tradable(backward),
-    ])
+    ]
 }
 
 // What may be traded over a ramp beside a period with a take.
-fn beside_a_take() -> Result<[i64; 2], Unworked>
-    ensures { MatchResult result (λ figures. figures ≡ expected_ramp) (λ _. ⊥) }
+fn beside_a_take() -> [i64; 2]
+    ensures { result ≡ expected_ramp }
 {
     let wide = wide_sheet();
     let mut below = Sheeted::<Given>::make();
-    below.reassess(&wide, 4)?;
-    below.reassess(&wide, 5)?;
-    let mut border = Ramp::new(200, below)?;
-    border.take(5, 200)?;
-    Ok([
+    below.reassess(&wide, 4).unwrap();
+    below.reassess(&wide, 5).unwrap();
+    let mut border = Ramp::new(200, below).unwrap();
+    border.take(5, 200).unwrap();
+    [
         tradable(border.margin(Direction::Forward, 4)),
         tradable(border.margin(Direction::Backward, 4)),
-    ])
+    ]
 }
 
 /// The worked figures, in order.
-pub fn worked() -> Result<[i64; 18], Unworked>
-    ensures { MatchResult result (λ figures. GivenBy rules figures × (figures ≡ expected)) (λ _. ⊥) }
+pub fn worked() -> [i64; 18]
+    ensures { GivenBy rules result × (result ≡ expected) }
 {
-    let [m1, m2, m3, m4] = margins()?;
-    let [r1, r2] = reserves()?;
+    let [m1, m2, m3, m4] = margins();
+    let [r1, r2] = reserves();
     let [s1, s2, s3, s4] = settlements();
     let [l1, l2, l3] = line_figures();
-    let [c1, c2, c3] = derated_cable()?;
-    let [b1, b2] = beside_a_take()?;
-    Ok([
+    let [c1, c2, c3] = derated_cable();
+    let [b1, b2] = beside_a_take();
+    [
         m1, m2, m3, m4, r1, r2, s1, s2, s3, s4, l1, l2, l3, c1, c2, c3, b1, b2,
-    ])
+    ]
 }

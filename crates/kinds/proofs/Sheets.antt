@@ -1,5 +1,5 @@
 -- A border whose limits follow the last sheet accepted for each period.
-use Rattle.std.proofs.Common.{◌≡◌, ℕ, zero, suc, ◌+◌, ◌<◌, ◌≤◌, Bool, true, false, cond, ◌&&◌, ◌⊎◌, List, [], ◌∷◌, length, get_or, set, replicate, ℤ, pos, ◌+ℤ◌, ◌-ℤ◌, neg_ℤ, ◌≤ℤ◌, ◌<ℤ◌, IsErrAnd, Ok, Err, Result, sym, refl, ap, ◌∙◌, subst, inl, inr, arith, w32, w64, SFits, to_z, of_z}
+use Rattle.std.proofs.Common.{◌≡◌, ℕ, zero, suc, ◌+◌, ◌<◌, ◌≤◌, Bool, true, false, cond, ◌&&◌, ◌⊎◌, List, [], ◌∷◌, length, get_or, set, replicate, ℤ, pos, ◌+ℤ◌, ◌-ℤ◌, neg_ℤ, ◌≤ℤ◌, ◌<ℤ◌, IsErrAnd, IsSome, MatchOption, None, Some, Option, Ok, Err, Result, sym, refl, ap, ◌∙◌, subst, inl, inr, arith, w32, w64, SFits, to_z, of_z}
 use Rattle.std.specs.Prelude.{map}
 use Rattle.std.specs.List.{list_all, zip}
 use mathlib.Core.Path.{fun_ext}
@@ -36,6 +36,11 @@ told x = to_z w32 (of_z w32 x)
 
 pub slot_of : (p : ℤ) (k : ℕ) → SFits w32 p → Slot k (told p) → Slot k p
 slot_of p k f h = simp to_z-of_z at h
+
+-- a period of the day has a slot
+pub slot_there : (p : ℤ) (r : Option ℕ) → SFits w32 p → Period 24 p → MatchOption r (Period 24 (told p) → ⊥) (λ k. Slot k (told p)) → IsSome r
+slot_there p None f day none = absurd ((simp to_z-of_z at none) day)
+slot_there p (Some k) f day there = refl
 
 read : (s : Schedule) (k : ℕ) (p : ℤ) → length s ≡ 24 → Slot k p → get_or s k (pos 0) ≡ figure_in s p
 read s k p long slot = ap (λ (i : ℕ). get_or s i (pos 0)) slot.1 ∙ sym (figure_day s p (in_own_day s p long slot.0))

@@ -1,7 +1,7 @@
 //! What a kind makes of a sheet.
-ghost use Rattle.std.specs.Prelude.{◌≡◌, Bool, true, ◌&&◌, ℤ};
+ghost use Rattle.std.specs.Prelude.{◌≡◌, Bool, true, ◌&&◌, ℤ, pos, neg_ℤ, int_le};
 ghost use Rattle.equations.specs.Capacities.{limit_of};
-ghost use Rattle.equations.specs.Ranges.{Near};
+ghost use Rattle.equations.specs.Ranges.{Near, between};
 ghost use Rattle.borders.specs.declared.Sheet.{Sheet as Figures};
 ghost use Rattle.borders.specs.Border.{side_of};
 ghost use Rattle.borders.specs.Limits.{Limited};
@@ -62,14 +62,18 @@ const ALL: Side = Side {
     ..FIRST_AND_SECOND
 };
 
+// Whether margin and reserve of a side are 0 to their most.
+fn rest_fits(side: &Side, most: &Side) -> bool
+    ensures { result ≡ (between (pos 0) side.now.margin most.now.margin && between (pos 0) side.now.reserve most.now.reserve) }
+{
+    lies(0, side.margin, most.margin) && lies(0, side.reserve, most.reserve)
+}
+
 // Whether each figure of a side is 0 to its most.
 fn side_fits(side: &Side, most: &Side) -> bool
     ensures { result ≡ side_within most.now side.now }
 {
-    lies(0, side.first, most.first)
-        & lies(0, side.second, most.second)
-        & lies(0, side.margin, most.margin)
-        & lies(0, side.reserve, most.reserve)
+    lies(0, side.first, most.first) && lies(0, side.second, most.second) && rest_fits(side, most)
 }
 
 // Whether each figure of both sides is 0 to its most.
@@ -83,7 +87,7 @@ fn sides_fit(sheet: &Sheet, most: &Side) -> bool
 fn unused(x: i32) -> bool
     ensures { result ≡ none x }
 {
-    lies(0, x, 0)
+    x == 0
 }
 
 #[derive(Clone, Copy, Default)]
@@ -161,6 +165,13 @@ fn line_in_ranges(sheet: &Sheet) -> bool
     sides_fit(sheet, &ALL) && lies(-20_000, sheet.power_flow, 20_000) && unused(sheet.circuits)
 }
 
+// Whether the limits of a line's sheet are not above 30,000 and not below −30,000.
+fn limits_fit(lower: i64, upper: i64) -> bool
+    ensures { result ≡ (int_le upper (pos 30000) && int_le (neg_ℤ (pos 30000)) lower) }
+{
+    upper <= 30_000 && -30_000 <= lower
+}
+
 impl Kind for Line {
     ghost test = { line_test };
 
@@ -173,7 +184,7 @@ impl Kind for Line {
     fn accepts(&self, sheet: &Sheet, flow: i32) -> bool {
         let upper = self.limit(Direction::Forward, sheet, flow);
         let lower = self.limit(Direction::Backward, sheet, flow);
-        line_in_ranges(sheet) & (upper <= 30_000) & (-30_000 <= lower)
+        line_in_ranges(sheet) && limits_fit(lower, upper)
     }
 
     fn limit(&self, direction: Direction, sheet: &Sheet, flow: i32) -> i64 {

@@ -6,11 +6,9 @@ ghost use Rattle.kinds.specs.Sheets.{lowers, uppers, stated_by, sheeted, idle};
 
 use crate::Kind;
 use crate::limits::Limits;
+pub use borders::PERIODS;
 use borders::{Border, BorderFault, Sheet};
 use equations::Direction;
-
-/// How many periods a delivery day has.
-pub const PERIODS: usize = 24;
 
 /// A border of a kind: its schedule, and the limits of each period.
 #[derive(Drop)]
@@ -99,10 +97,10 @@ impl<K: Kind> Border for Sheeted<K> {
     }
 
     fn take(&mut self, period: i32, m: i32) -> Result<(), BorderFault> {
+        // a move that can be taken is one of a period of the day
         self.may_take(period, m)?;
-        if let Some(k) = slot(period) {
-            self.flows[k] += m;
-        }
+        let k = slot(period).unwrap();
+        self.flows[k] += m;
         Ok(())
     }
 

@@ -93,3 +93,36 @@ fn no_borders_at_all(rt: HostRuntime) -> Result<(), Fail> {
         }
     }
 }
+
+// Four given borders without flows before the others.
+fn four<R>(rest: R) -> Four<R> {
+    Pair {
+        first: Sheeted::<Given>::make(),
+        rest: Pair {
+            first: Sheeted::<Given>::make(),
+            rest: Pair {
+                first: Sheeted::<Given>::make(),
+                rest: Pair {
+                    first: Sheeted::<Given>::make(),
+                    rest,
+                },
+            },
+        },
+    }
+}
+
+type Two<R> = Pair<Sheeted<Given>, Pair<Sheeted<Given>, R>>;
+
+type Four<R> = Two<Two<R>>;
+
+#[test]
+fn one_zone_too_many(rt: HostRuntime) -> Result<(), Fail> {
+    let twelve = four(four(four(NoBorders)));
+    let Err(unmade) = Region::new(&[0; 16], four(twelve)) else {
+        return Err(Fail::new("region made"));
+    };
+    assert_eq!(rt; unmade.fault, MakingFault::Count);
+    let fifteen = unmade.bank.rest;
+    assert!(rt; Region::new(&[0; 15], fifteen).is_ok());
+    Ok(())
+}

@@ -1,9 +1,9 @@
 -- The grounds of a sheet, judged one after another: what each refusal tells, and what an accepted sheet leaves.
-use Rattle.std.proofs.Common.{◌≡◌, ℕ, ◌<◌, ◌≤◌, true, false, List, [], ◌∷◌, ℤ, nat_abs, IsErrAnd, MatchResult, is_ok, Some, None, Ok, Err, Result, sym, refl, ap, ◌∙◌, subst, inl, inr, arith}
+use Rattle.std.proofs.Common.{◌≡◌, ℕ, ◌<◌, ◌≤◌, true, false, List, [], ◌∷◌, ℤ, nat_abs, IsErrAnd, IsOk, MatchResult, is_ok, Some, None, Ok, Err, Result, sym, refl, ap, ◌∙◌, subst, inl, inr, arith}
 use Rattle.std.proofs.lemmas.Bool.{both_ways}
 use Rattle.borders.specs.Border.{Meaning, passing, flow_of}
-use Rattle.borders.specs.Answers.{Reassessed}
-use Rattle.borders.specs.Bank.{border_at, OthersStay}
+use Rattle.borders.specs.Answers.{Reassessed, ReassessAnswer}
+use Rattle.borders.specs.Bank.{border_at, OthersStay, own_answer}
 use Rattle.borders.specs.declared.Sheet.{Sheet}
 use Rattle.borders.specs.declared.BorderFault.{BorderFault}
 use Rattle.borders.specs.declared.BorderFault.TheVariants.{Reassess}
@@ -31,6 +31,11 @@ use Rattle.region.specs.Seen.{logged}
 told_by_border : (e : BankFault) (c : ℕ) (p : ℤ) (cause : BorderFault) → e.border ≡ c → e.period ≡ p → e.cause ≡ cause → of_border e ≡ refused_by c p cause
 told_by_border e c p cause eb ep ec =
     ap (λ k. refused_by k e.period e.cause) eb ∙ ap (λ q. refused_by c q e.cause) ep ∙ ap (refused_by c p) ec
+
+-- a border accepts a sheet that passes
+pub accepts_passing : (was new : Meaning) (x : Sheet) (p : ℤ) (r : Result (Unit {0}) BankFault) → passing was x p ≡ true → ReassessAnswer was x p (own_answer r) new → IsOk r × Reassessed was new x p
+accepts_passing was new x p (Ok u) passes answer = (refl, answer.1)
+accepts_passing was new x p (Err e) passes answer = absurd (let refused = answer.0 in cc)
 
 -- a log that is as it was, and one that a record joined
 logged_is : {X : Type 0} (xs ys : List X) (m n : ℕ) → xs ≡ ys → m ≡ n → log_of xs m ≡ log_of ys n

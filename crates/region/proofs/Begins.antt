@@ -57,4 +57,4 @@ pub unfit : (given : List ℕ) (bs : List Meaning) (n c : ℕ) → length given 
 unfit given bs n c many counts parents e h =
     let few = counts.1 in
     let below = h.1 in
-    ((counts, omega arith), parents, record { from = h.0; below = omega arith; holds = h.2; first = λ d a b flow. flow.3 (h.3 d a b flow.0 flow.1 flow.2) })
+    ((counts, omega arith), parents, record { from = h.0; below = omega arith; holds = h.2; first = λ d a b flow. flow.3 (h.3 d a b flow.0 flow.1 flow.2) }, refl)

@@ -29,9 +29,9 @@ slot_once y z q p dq dp e =
     let bh = b.1.1 in
     (omega arith, a.0 ∙ ap pos (omega arith) ∙ sym b.0)
 
-set_there : (v : View) (rs : List ZoneRecord) (z : ℕ) (p : ℤ) (r : ZoneRecord) → length v.records ≡ 384 → z < 16 → Period p → rs ≡ set v.records (slot z p) r →
+pub only_record : (v : View) (rs : List ZoneRecord) (z : ℕ) (p : ℤ) (r : ZoneRecord) → length v.records ≡ 384 → z < 16 → Period p → rs ≡ set v.records (slot z p) r →
     OnlyRecord v (with_records v rs) z p r
-set_there v rs z p r many few day e =
+only_record v rs z p r many few day e =
     let b = numbered p day in
     let bl = b.1.0 in
     let bh = b.1.1 in
@@ -43,11 +43,11 @@ set_there v rs z p r many few day e =
     }
 
 -- of the records only that of a slot is another, made of the one that was there
-only_record : (v : View) (rs : List ZoneRecord) (s : Slot) (z p : ℤ) (f : ZoneRecord → ZoneRecord) → s.zone ≡ nat_abs z → s.period ≡ p → length v.records ≡ 384 →
+put_record : (v : View) (rs : List ZoneRecord) (s : Slot) (z p : ℤ) (f : ZoneRecord → ZoneRecord) → s.zone ≡ nat_abs z → s.period ≡ p → length v.records ≡ 384 →
     rs ≡ set v.records (slot s.zone s.period) (f (record_in v.records s.zone s.period)) → OnlyRecord v (with_records v rs) (nat_abs z) p (f (record_of v (nat_abs z) p))
-only_record v rs s z p f at_z at_p many e =
+put_record v rs s z p f at_z at_p many e =
     subst (λ (k : ℕ). OnlyRecord v (with_records v rs) k p (f (record_of v k p))) at_z
-    (subst (λ (q : ℤ). OnlyRecord v (with_records v rs) s.zone q (f (record_of v s.zone q))) at_p (set_there v rs s.zone s.period (f (record_in v.records s.zone s.period)) many s.few s.in_day e))
+    (subst (λ (q : ℤ). OnlyRecord v (with_records v rs) s.zone q (f (record_of v s.zone q))) at_p (only_record v rs s.zone s.period (f (record_in v.records s.zone s.period)) many s.few s.in_day e))
 
 -- what a call leaves that changes the record of a zone and period alone, once its grounds are judged
 pub record_changed : (v : View) (call : Call) (z p : ℤ) (s : Slot) (allowed : Type 0) (next : State) (rs : List ZoneRecord) (f : ZoneRecord → ZoneRecord) →
@@ -56,4 +56,4 @@ pub record_changed : (v : View) (call : Call) (z p : ℤ) (s : Slot) (allowed : 
     AllClear (no_period p ∷ no_zone v.zones z p ∷ bad_amount allowed p ∷ wrong_state v call p ∷ []) × (Answers Done [] refl Done × OnlyRecord v (with_records v rs) (nat_abs z) p (f (record_of v (nat_abs z) p)))
 record_changed v call z p s allowed next rs f found yes' after many e =
     let clear = zone_clear v.zones z p found.0 found.1 in
-    ((clear.0, (clear.1.0, (amount_clear allowed p yes', (state_clear v call p next after, tt)))), (refl, only_record v rs s z p f found.2 found.4 many e))
+    ((clear.0, (clear.1.0, (amount_clear allowed p yes', (state_clear v call p next after, tt)))), (refl, put_record v rs s z p f found.2 found.4 many e))

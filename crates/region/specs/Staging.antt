@@ -1,5 +1,5 @@
 -- What is staged in the zones of a region, and the grounds that it gives.
-use Rattle.std.specs.Prelude.{ℕ, ◌<◌, ◌≤◌, List, ℤ, pos, ◌+ℤ◌, ◌≤ℤ◌}
+use Rattle.std.specs.Prelude.{ℕ, ◌<◌, ◌≤◌, List, ℤ}
 use Rattle.borders.specs.Day.{Schedule}
 use Rattle.borders.specs.Border.{Meaning, Admitted}
 use Rattle.borders.specs.Bank.{border_at}
@@ -35,7 +35,3 @@ not_admitting_in k bs = not_admitting (zones k.tree) (up k.tree) bs k.table.reco
 -- every border admits its schedule
 abbrev pub AllAdmit : KeptZones → List Meaning → Type 0
 AllAdmit k bs = (c : ℕ) → 1 ≤ c → c < zones k.tree → Admitted (border_at bs c) (schedule_of k c)
-
--- a number that is in reach of the sums of a zone's flows: within 2 ^ 36 of 0
-abbrev pub FewFlows : ℤ → Type 0
-FewFlows x = (pos 0 ≤ℤ (x +ℤ pos 68719476736)) × (x ≤ℤ pos 68719476736)

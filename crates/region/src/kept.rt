@@ -57,7 +57,8 @@ impl KeptZones {
         sum
     }
 
-    // The flow that adoption gives a border in the period after k others: minus what is staged behind it.
+    // The flow that adoption gives a border in the period after k others: minus what is staged behind it. (Proved apart from the closure
+    // that calls it.)
     fn flow_for(&self, border: usize, k: usize) -> i32
         requires there { HasBorder self.now border }
         requires in_day { k < 24 }

@@ -1,6 +1,6 @@
 // Every ground that these calls have, in every state.
 use crate::setting::{Day, STATES, blank_deal, blank_sheet, in_state, sheet, small, tells};
-use book::Call;
+use book::{Call, State};
 use equations::Told;
 use std::process::Abort;
 use std::test::Fail;
@@ -234,8 +234,8 @@ fn carry(border: i32, period: i32) -> Call {
     }
 }
 
-// What the adoption of staged positions tells, where both borders carry 400 in periods 4 and 9 and zone 1 may import 50 in period 4.
-fn adoption(rt: &impl Abort, staged: &[Call]) -> Result<Option<Told>, Fail> {
+// What the adoption of staged positions tells after these opening calls, where both borders carry 400 in periods 4 and 9 and zone 1 may import 50 in period 4.
+fn adoption(rt: &impl Abort, opening: &[Call], staged: &[Call]) -> Result<Option<Told>, Fail> {
     let mut deals = [blank_deal(); 1];
     let mut sheets = [blank_sheet(); 4];
     let mut day = Day::new(small()?, &mut deals, &mut sheets);
@@ -245,15 +245,9 @@ fn adoption(rt: &impl Abort, staged: &[Call]) -> Result<Option<Told>, Fail> {
         import: 50,
         export: 0,
     };
-    let calls = [
-        carry(1, 4),
-        carry(2, 4),
-        carry(1, 9),
-        carry(2, 9),
-        limit,
-        Call::Offer,
-    ];
+    let calls = [carry(1, 4), carry(2, 4), carry(1, 9), carry(2, 9), limit];
     day.accepted(rt, &calls);
+    day.accepted(rt, opening);
     day.accepted(rt, staged);
     Ok(day.told(Call::Adopt))
 }
@@ -299,18 +293,82 @@ fn grounds_of_an_adoption(rt: HostRuntime) -> Result<(), Fail> {
         ),
     ];
     for (staged, expected) in table {
-        assert_eq!(rt; adoption(&rt, &staged)?, expected);
+        assert_eq!(rt; adoption(&rt, &[Call::Offer], &staged)?, expected);
+        assert_eq!(rt;
+            adoption(&rt, &[Call::Offer, Call::Gate], &staged)?,
+            expected
+        );
+    }
+    Ok(())
+}
+
+// A limit of a zone's import, and a wide one of its export.
+fn import_limit(zone: i32, period: i32, import: i32) -> Call {
+    Call::Limit {
+        zone,
+        period,
+        import,
+        export: 500,
+    }
+}
+
+// Several limits are passed at once: the first by period is told, then by zone.
+#[test]
+fn limits_passed_by_an_adoption(rt: HostRuntime) -> Result<(), Fail> {
+    let nothing = stage(2, 1, 0);
+    let limits = [import_limit(2, 4, 70), import_limit(1, 9, 20)];
+    let table = [
+        (
+            [
+                stage(0, 4, 160),
+                stage(2, 4, -100),
+                stage(1, 4, -60),
+                nothing,
+            ],
+            tells(25, 1, 4),
+        ),
+        (
+            [
+                stage(0, 9, 30),
+                stage(1, 9, -30),
+                stage(0, 4, 100),
+                stage(2, 4, -100),
+            ],
+            tells(25, 2, 4),
+        ),
+    ];
+    for (staged, expected) in table {
+        let opening = [limits[0], limits[1], Call::Offer];
+        assert_eq!(rt; adoption(&rt, &opening, &staged)?, expected);
+        let opening = [limits[0], limits[1], Call::Offer, Call::Gate];
+        assert_eq!(rt; adoption(&rt, &opening, &staged)?, expected);
     }
     Ok(())
 }
 
 #[test]
 fn sheet_log_that_is_full(rt: HostRuntime) -> Result<(), Fail> {
-    let mut deals = [blank_deal(); 1];
-    let mut sheets = [blank_sheet(); 1];
-    let mut day = Day::new(small()?, &mut deals, &mut sheets);
-    assert_eq!(rt; day.told(carry(1, 3)), None);
-    assert_eq!(rt; day.told(carry(1, 8)), tells(26, 0, 8));
-    assert_eq!(rt; day.counts(), (0, 1));
+    let early = Call::Sheet {
+        border: 2,
+        period: 8,
+        sheet: sheet(700, 1_000, 350),
+    };
+    let full = tells(26, 0, 8);
+    let table = [
+        (State::Drafting, tells(21, 2, 8)),
+        (State::Matched, full),
+        (State::Waiting, tells(21, 2, 8)),
+        (State::Trading, full),
+    ];
+    for (state, with_flow) in table {
+        let mut deals = [blank_deal(); 1];
+        let mut sheets = [blank_sheet(); 1];
+        let mut day = Day::new(small()?, &mut deals, &mut sheets);
+        assert_eq!(rt; day.told(carry(1, 3)), None);
+        day.bring(&rt, state);
+        assert_eq!(rt; day.told(carry(1, 8)), full);
+        assert_eq!(rt; day.told(early), with_flow);
+        assert_eq!(rt; day.counts(), (0, 1));
+    }
     Ok(())
 }

@@ -1,4 +1,4 @@
--- Laws of `lines`, for `next_line` and for the crates above.
+-- Laws of `lines`, for the handing out of lines and for the crates above.
 use Rattle.std.proofs.Common.{◌≡◌, ℕ, suc, ◌+◌, ◌<◌, ◌≤◌, eqb, List, [], ◌∷◌, ◌++◌, length, get_or, take, drop, sym, refl, ap, ◌∙◌, inl, inr, arith}
 use lib.Seq.{split_at}
 use Rattle.std.proofs.lemmas.Grind.{common_steps}

@@ -1,5 +1,5 @@
 -- The tree of zones as it is made, asked and refused.
-use Rattle.std.specs.Prelude.{◌≡◌, ℕ, ◌+◌, ◌<◌, ◌≤◌, Bool, cond, ◌&&◌, List, [], ◌∷◌, length, take, ℤ, pos, Some, None, Option, Result, MatchResult, nat_lt, slice_index, slice_index_or}
+use Rattle.std.specs.Prelude.{◌≡◌, ℕ, ◌+◌, ◌<◌, ◌≤◌, Bool, cond, ◌&&◌, List, [], ◌∷◌, length, take, ℤ, pos, ◌+ℤ◌, ◌≤ℤ◌, Some, None, Option, Result, MatchResult, nat_lt, slice_index, slice_index_or}
 use Rattle.equations.specs.Grounds.{tells}
 use Rattle.equations.specs.declared.fault.Told.{Told}
 use Rattle.equations.specs.declared.capacity.Direction.{Direction}
@@ -38,11 +38,16 @@ ParentAllowed given z = parent_in given z < z
 abbrev pub AllowedBelow : List ℕ → ℕ → Type 0
 AllowedBelow given n = (z : ℕ) → 1 ≤ z → z < n → ParentAllowed given z
 
--- when each fault is told: the count of zones is judged first, then the parents, of which the lowest zone's is told
+-- what each fault tells: ground 8
+abbrev pub told : TreeFault → Told
+told Count = tells 8 (pos 0) (pos 0)
+told (Parent z) = tells 8 (pos z) (pos 0)
+
+-- when each fault is told, and what it tells: the count of zones is judged first, then the parents, of which the lowest zone's is told
 abbrev pub RefusedAs : List ℕ → TreeFault → Type 0
-RefusedAs given Count = CountAllowed given → ⊥
+RefusedAs given Count = (CountAllowed given → ⊥) × (told Count ≡ tells 8 (pos 0) (pos 0))
 RefusedAs given (Parent z) =
-    CountAllowed given × (1 ≤ z) × (z ≤ length given) × (ParentAllowed given z → ⊥) × AllowedBelow given z
+    CountAllowed given × (1 ≤ z) × (z ≤ length given) × (ParentAllowed given z → ⊥) × AllowedBelow given z × (told (Parent z) ≡ tells 8 (pos z) (pos 0))
 
 -- the tree of the given parents, if the count and all parents are allowed, else the refusal
 abbrev pub Made : List ℕ → Result Tree TreeFault → Type 0
@@ -50,10 +55,9 @@ Made given r = MatchResult r
     (λ t. CountAllowed given × AllowedBelow given (length given + 1) × (zones t ≡ length given + 1) × ((z : ℕ) → up t z ≡ parent_in given z))
     (RefusedAs given)
 
--- what each fault tells: ground 8
-abbrev pub told : TreeFault → Told
-told Count = tells 8 (pos 0) (pos 0)
-told (Parent z) = tells 8 (pos z) (pos 0)
+-- within 2 ^ 36 of 0, as far as a sum of the flows of a zone's borders can reach
+abbrev pub InReach : ℤ → Type 0
+InReach x = (pos 0 ≤ℤ (x +ℤ pos 68719476736)) × (x ≤ℤ pos 68719476736)
 
 -- the parent of a zone that has one
 abbrev pub parent_of : Tree → ℕ → Option ℕ

@@ -1,12 +1,13 @@
 //! The way between two zones, kept in place.
 ghost use Rattle.std.specs.Prelude.{ℕ, ◌≤◌};
 
+use crate::tree::MOST_ZONES;
 use equations::Direction;
 
 mod steps;
 
 /// The most borders that a way crosses.
-pub const MOST_BORDERS: usize = 15;
+pub const MOST_BORDERS: usize = MOST_ZONES - 1;
 
 /// A border on a way, and the direction in which it is crossed.
 #[derive(Clone, Copy, PartialEq, Eq, Debug)]

@@ -31,7 +31,7 @@ impl<B: Bank> Region<B> {
     {
         for border in 1..self.kept.tree.count() {
             let schedule = self.kept.schedule_for(border);
-            let _ = self.bank.adopt(border, &schedule);
+            self.bank.adopt(border, &schedule).unwrap();
         }
     }
 

@@ -1,11 +1,10 @@
 //! What a region is asked.
 ghost use Rattle.std.specs.Prelude.{◌≡◌, ◌<◌};
-ghost use Rattle.zones.specs.Trees.{zones, up};
+ghost use Rattle.zones.specs.Trees.{zones, up, InReach};
 ghost use Rattle.zones.specs.Ways.{net_of_flows};
 ghost use Rattle.borders.specs.Border.{flow_of};
 ghost use Rattle.borders.specs.Bank.{border_at};
 ghost use Rattle.book.specs.Limits.{zone_overrun};
-ghost use Rattle.region.specs.Staging.{FewFlows};
 ghost use Rattle.region.specs.Seen.{DidWithoutLogs, ask_border_lem, ask_zone_lem};
 
 use super::Region;
@@ -16,7 +15,7 @@ use zones::way::MOST_BORDERS;
 
 // How far a net position lies beyond a zone's limit.
 fn overrun(limit: Option<ZoneLimit>, net: i64) -> i64
-    requires { FewFlows net }
+    requires { InReach net }
     ensures { result ≡ zone_overrun limit net }
 {
     match limit {
@@ -34,7 +33,7 @@ impl<B: Bank> Region<B> {
     fn net(&self, zone: usize, period: i32) -> i64
         requires { zone < zones self.now.kept.tree }
         ensures value { result ≡ net_of_flows (zones self.now.kept.tree) (up self.now.kept.tree) (λ c. flow_of (border_at (B.Bank.borders self.now.bank) c) period) zone }
-        ensures range { FewFlows result }
+        ensures range { InReach result }
     {
         let flows: [i32; MOST_BORDERS] = std::array::from_fn(|k| self.bank.flow(k + 1, period));
         self.kept.tree.net_position(&flows, zone)

@@ -1,5 +1,5 @@
 //! A call on a region, with both logs.
-ghost use Rattle.std.specs.Prelude.{◌≡◌};
+ghost use Rattle.logs.specs.Logs.{SameMemory};
 ghost use Rattle.book.specs.Calls.{CallDid};
 ghost use Rattle.region.specs.Seen.{seen};
 
@@ -17,8 +17,8 @@ impl<B: Bank> Region<B> {
         call: Call,
     ) -> Result<Answer, RegionFault>
         ensures did { CallDid (seen B.Bank.borders self.old deals.old sheets.old) call result (seen B.Bank.borders self.new deals.new sheets.new) }
-        ensures deals { deals.new.slots.ghost_name ≡ deals.old.slots.ghost_name }
-        ensures sheets { sheets.new.slots.ghost_name ≡ sheets.old.slots.ghost_name }
+        ensures deals { SameMemory deals.old deals.new }
+        ensures sheets { SameMemory sheets.old sheets.new }
     {
         match call {
             Call::Sheet {

@@ -1,6 +1,7 @@
 //! A new sheet for a border and period.
-ghost use Rattle.std.specs.Prelude.{◌≡◌, Decides};
+ghost use Rattle.std.specs.Prelude.{◌≡◌, IsTrue, ◌↔◌};
 ghost use Rattle.logs.specs.declared.Log.{Log as LogOf};
+ghost use Rattle.logs.specs.Logs.{SameMemory};
 ghost use Rattle.book.specs.declared.Deal.{Deal as DealOf};
 ghost use Rattle.book.specs.Grounds.{FlowsEarly};
 ghost use Rattle.book.specs.Calls.{CallDid};
@@ -13,7 +14,7 @@ use logs::Log;
 
 // Whether a sheet has a power flow though no result has been adopted.
 fn flows_early(sheet: &Sheet, state: State) -> bool
-    ensures { Decides result (FlowsEarly sheet.now state) }
+    ensures { IsTrue result ↔ FlowsEarly sheet.now state }
 {
     sheet.power_flow != 0 && !state.has_result()
 }
@@ -28,7 +29,7 @@ impl<B: Bank> Region<B> {
         sheet: Sheet,
     ) -> Result<Answer, RegionFault>
         ensures did { (deals : LogOf DealOf) → CallDid (seen B.Bank.borders self.old deals sheets.old) (sheet_call border period sheet) result (seen B.Bank.borders self.new deals sheets.new) }
-        ensures lent { sheets.new.slots.ghost_name ≡ sheets.old.slots.ghost_name }
+        ensures lent { SameMemory sheets.old sheets.new }
     {
         let at = self.border(border, period)?;
         self.bank.may_reassess(at, &sheet, period)?;
@@ -52,7 +53,7 @@ impl<B: Bank> Region<B> {
             .enter(accepted)
             .map_err(|_| RegionFault::Full(period))?;
         // the border said that it would accept the sheet, so it does
-        self.bank.reassess(at, &sheet, period)?;
+        self.bank.reassess(at, &sheet, period).unwrap();
         Ok(Answer::Done)
     }
 }

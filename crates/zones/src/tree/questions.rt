@@ -1,7 +1,7 @@
 //! Questions to the tree.
 ghost use Rattle.std.specs.Prelude.{◌≡◌, ◌<◌, ◌≤◌, true, pos, ◌+ℤ◌, ◌≤ℤ◌};
 ghost use Rattle.zones.specs.Ways.{EachOnce, Leads};
-ghost use Rattle.zones.specs.Trees.{zones, up, is_zone, is_border, parent_of, lies_behind_lem, way_of, steps_of, both_zones, flow_in, net_position_lem};
+ghost use Rattle.zones.specs.Trees.{zones, up, is_zone, is_border, parent_of, lies_behind_lem, way_of, steps_of, both_zones, flow_in, net_position_lem, InReach};
 
 use super::Tree;
 use crate::way::{FILLER, MOST_BORDERS, Step, Way};
@@ -116,7 +116,7 @@ impl Tree {
     /// zones below it less what comes in by its own border; 0 where there is no such zone.
     pub fn net_position(&self, flows: &[i32], zone: usize) -> i64
         ensures value { result ≡ net_position_lem self.now flows.now zone }
-        ensures range { (pos 0 ≤ℤ (result +ℤ pos 68719476736)) × (result ≤ℤ pos 68719476736) }
+        ensures range { InReach result }
     {
         if !self.has(zone) {
             return 0;

@@ -7,7 +7,7 @@ use Rattle.borders.specs.Bank.{border_at}
 use Rattle.book.specs.Grounds.{FlowsEarly}
 use Rattle.region.specs.Seen.{seen, sheet_call}
 use Rattle.region.proofs.Refusals.{border_refused}
-use Rattle.region.proofs.Assessing.{test_refused, state_refused, flow_refused, log_refused, sheet_accepted}
+use Rattle.region.proofs.Assessing.{test_refused, state_refused, flow_refused, log_refused, sheet_accepted, accepts_passing}
 use Rattle.region.proofs.region.Region.sheet.Goals as goal
 
 pub returns-in_err-at-clause-did : goal.returns-in_err-at-clause-did
@@ -66,5 +66,11 @@ returns-clause-did g c deals =
     let passes = simp to_z-of_z at c.in_ok-may_reassess.ensures.own in
     let in_time : FlowsEarly c.args.sheet c.args.self.now.state → ⊥ = λ h. false≢true (c.if-flows_early.ensures.1 h) in
     let ff : SFits w32 c.flow-flow.result = record { sfits = c.flow-flow.type_inv } in
-    let own = simp to_z-of_z at c.in_ok-reassess.ensures.own in
-    sheet_accepted v c.args.border c.args.period c.args.sheet _ found passes c.in_ok-allows.field-0 c.in_ok-allows.ensures in_time _ _ c.args.sheets.now c.enter.new.self refl c.enter.ensures.answer c.in_ok-map_err.ensures.variant c.flow-flow.result (simp to_z-of_z) (simp to_z-of_z at c.flow-flow.ensures) (g.B.Bank.borders c.reassess.new.self) own.1 c.in_ok-reassess.ensures.others
+    let own = accepts_passing (border_at (g.B.Bank.borders c.args.self.now.bank) c.in_ok-at.at) (border_at (g.B.Bank.borders c.reassess.new.self) c.in_ok-at.at) c.args.sheet c.args.period c.reassess.result passes (simp to_z-of_z at c.reassess.ensures.own) in
+    sheet_accepted v c.args.border c.args.period c.args.sheet _ found passes c.in_ok-allows.field-0 c.in_ok-allows.ensures in_time _ _ c.args.sheets.now c.enter.new.self refl c.enter.ensures.answer c.in_ok-map_err.ensures.variant c.flow-flow.result (simp to_z-of_z) (simp to_z-of_z at c.flow-flow.ensures) (g.B.Bank.borders c.reassess.new.self) own.1 c.reassess.ensures.others
+
+pub unwrap-requires : goal.unwrap-requires
+unwrap-requires g c =
+    let fp = c.ranges.period in
+    let passes = simp to_z-of_z at c.in_ok-may_reassess.ensures.own in
+    (accepts_passing (border_at (g.B.Bank.borders c.args.self.now.bank) c.in_ok-at.at) (border_at (g.B.Bank.borders c.reassess.new.self) c.in_ok-at.at) c.args.sheet c.args.period c.reassess.result passes (simp to_z-of_z at c.reassess.ensures.own)).0
