@@ -1,2 +1,3 @@
+mod DigitLaws
 pub mod LineLaws
 pub mod NumberLaws

@@ -1,8 +1,8 @@
 -- What follows of a field that writes a number, for `number` and for the crates above.
-use Rattle.std.proofs.Common.{◌≡◌, ℕ, zero, suc, ◌<◌, ◌≤◌, Bool, true, false, IsTrue, ◌↔◌, List, [], ◌∷◌, length, get_or, ℤ, pos, negsuc, neg_ℤ, decimal, Some, IfSome, MatchOption, Ok, Err, Result, FitsSigned, w32, sym, refl, ap, ◌∙◌, inl, inr, arith}
+use Rattle.std.proofs.Common.{◌≡◌, ℕ, zero, suc, ◌<◌, ◌≤◌, Bool, true, false, IsTrue, ◌↔◌, List, [], ◌∷◌, length, get_or, drop, ℤ, pos, negsuc, neg_ℤ, decimal, Some, IfSome, MatchOption, Ok, Err, Result, FitsSigned, w32, sym, refl, ap, ◌∙◌, inl, inr, arith}
 use lib.Signed.{mag}
 use Rattle.std.proofs.lemmas.Bool.{false≢true}
-use Rattle.std.proofs.lemmas.Fmt.{IsAscii-signed, decimal_digit, decimal_nonempty, decimal-digits_value, digits_decimal, first_decimal, length_signed_le, parse-signed_decimal, signed_decimal_injective}
+use Rattle.std.proofs.lemmas.Fmt.{IsAscii-signed, decimal_digit, decimal_nonempty, decimal-digits_value, digits_decimal, first_decimal, length_signed_le, decimal_injective, parse-signed_decimal, signed_decimal_injective}
 use Rattle.std.proofs.lemmas.Int.{ints}
 use Rattle.std.proofs.lemmas.Str.{IsUtf8-from_ascii}
 use Rattle.std.proofs.lemmas.Str.Parse.{IsNumeralModel, numerals_by_value, parse_signed_minus, parse_signed_plain, tells_by_index}
@@ -12,7 +12,14 @@ use Rattle.std.specs.Int.{IsInRange}
 use Rattle.std.specs.Result.{result_ok}
 use Rattle.std.specs.Str.{IsUtf8}
 use Rattle.std.specs.Str.Parse.{ParsesSigned, digits_value}
+use Rattle.text.proofs.DigitLaws.{first_digit}
 use Rattle.text.specs.Numbers.{Allowed, BeginsRight, Writes}
+
+allowed_pos : (n : ℕ) → Allowed (pos n) → n ≤ 1000000
+allowed_pos n h = omega (arith, ints)
+
+allowed_negsuc : (n : ℕ) → Allowed (negsuc n) → suc n ≤ 1000000
+allowed_negsuc n h = omega (arith, ints)
 
 allowed_mag : (n : ℤ) → Allowed n → mag n ≤ 1000000
 allowed_mag (pos n) h = omega (arith, ints)
@@ -36,6 +43,22 @@ writes_short field n p =
     let small = allowed_mag n p.0 in
     omega (arith, ap length p.1, length_signed_le 7 n (omega arith) (omega arith))
 
+-- and at least one
+pub writes_some : (field : List ℕ) (n : ℤ) → Writes field n → 0 < length field
+writes_some field (pos n) p = omega (arith, ap length p.1, decimal_nonempty n (omega (arith, allowed_pos n p.0)))
+writes_some field (negsuc n) p = omega (arith, ap length p.1)
+
+-- what stands after a `-` in front are the digits of a number other than 0
+pub minus_only : (field ds : List ℕ) (b : ℕ) (n : ℤ) → field ≡ b ∷ ds → b ≡ 45 → Writes field n → (m : ℕ) × (0 < m) × (m ≤ 1000000) × (ds ≡ decimal m)
+minus_only field ds b (pos n) e minus p =
+    absurd (omega (arith, first_digit n (allowed_pos n p.0), ap (λ bs. get_or bs 0 0) (sym p.1 ∙ e)))
+minus_only field ds b (negsuc n) e minus p = (suc n, omega arith, allowed_negsuc n p.0, ap (drop 1) (sym e ∙ p.1))
+
+pub no_minus_zero : (field ds : List ℕ) (b m : ℕ) (n : ℤ) → field ≡ b ∷ ds → b ≡ 45 → ds ≡ decimal m → m ≡ 0 → Writes field n → ⊥
+no_minus_zero field ds b m n e minus is none p =
+    let k = minus_only field ds b n e minus p in
+    omega (arith, decimal_injective k.0 m (omega (arith, k.2)) (omega arith) (sym k.3 ∙ is), k.1)
+
 -- it is a text, and reading it gives the number
 pub writes_text : (field : List ℕ) (n : ℤ) → Writes field n → IsUtf8 field
 writes_text field n p =
@@ -51,15 +74,15 @@ writes_read field n r p read =
     parse-signed_decimal w32 n field r (fits n p.0) (omega arith) p.1 read
 
 -- the first digit of a number above 0 is not 0
-first_digit : (n : ℕ) → 0 < n → n ≤ 1000000 → IsInRange 49 57 (get_or (decimal n) 0 0)
-first_digit n some small =
+first_above_0 : (n : ℕ) → 0 < n → n ≤ 1000000 → IsInRange 49 57 (get_or (decimal n) 0 0)
+first_above_0 n some small =
     let digit = digits_decimal own n (omega arith) 0 (decimal_nonempty n (omega arith)) in
     omega (arith, first_decimal n some (omega arith))
 
 pub writes_begins : (field : List ℕ) (n : ℤ) → Writes field n → BeginsRight field
 writes_begins field (pos zero) p = inl (p.1 ∙ decimal_digit 0 (omega arith))
-writes_begins field (pos (suc n)) p = rw p.1 (inr (inl (first_digit (suc n) (omega arith) (omega (arith, ints)))))
-writes_begins field (negsuc n) p = rw p.1 (inr (inr (refl, first_digit (suc n) (omega arith) (omega (arith, ints)))))
+writes_begins field (pos (suc n)) p = rw p.1 (inr (inl (first_above_0 (suc n) (omega arith) (omega (arith, ints)))))
+writes_begins field (negsuc n) p = rw p.1 (inr (inr (refl, first_above_0 (suc n) (omega arith) (omega (arith, ints)))))
 
 -- the field is read as n, whatever its sign and its leading zeros
 abbrev ReadAs : List ℕ → ℤ → Type 0

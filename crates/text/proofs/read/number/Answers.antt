@@ -1,16 +1,21 @@
--- A field that is refused writes no number; what is read of any other is the number that it writes.
-use Rattle.std.proofs.Common.{IsTrue, ◌↔◌, arith, rules}
-use Rattle.std.proofs.lemmas.Int.{ints}
-use Rattle.text.proofs.NumberLaws.{told_allowed, writes_begins}
-use Rattle.text.specs.Numbers.{Allowed, BeginsRight}
+-- A field that is refused writes no number.
+use Rattle.std.proofs.Common.{ℤ, arith, rules}
+use Rattle.text.proofs.NumberLaws.{minus_only, no_minus_zero, writes_some}
+use Rattle.text.specs.Numbers.{Writes}
 use Rattle.text.proofs.read.number.Goals as goal
 
-pub returns-then-not-begins_right : goal.returns-then-not-begins_right
-returns-then-not-begins_right c n p = let begins = writes_begins _ n p in search rules
+pub returns-in_err-first : goal.returns-in_err-first
+returns-in_err-first c =
+    rw c.from_residual.ensures (λ n p. omega (arith, c.in_err-first.ensures.cases, writes_some _ n p))
 
-pub returns : goal.returns
-returns c =
-    let begins : BeginsRight c.args.field.now = search rules in
-    let allowed : IsTrue c.contains.result ↔ Allowed c.in_ok-n.n = grind (arith, ints) in
-    let told = told_allowed _ _ c.contains.result (c.in_ok-n.ensures.number begins) c.in_ok-n.ensures.written allowed in
+pub returns-in_err-n : goal.returns-in_err-n
+returns-in_err-n c =
+    rw c.from_residual-in_err-n.ensures
+    (λ n p. let m = minus_only _ _ _ n c.in_ok-first.ensures.cases.0 c.if-first-eq45.true p in
+    c.in_err-n.ensures m.0 m.2 m.3)
+
+pub returns-in-0 : goal.returns-in-0
+returns-in-0 c =
+    let none : (n : ℤ) → Writes c.args.field.now n → ⊥ =
+    λ n p. no_minus_zero _ _ _ _ n c.in_ok-first.ensures.cases.0 c.if-first-eq45.true c.in_ok-n.ensures.1 c.in-0.is p in
     search rules
