@@ -1,12 +1,13 @@
 -- The net position of a zone from the flows of the borders, collected one by one.
-use Rattle.std.proofs.Common.{◌≡◌, ℕ, ◌+◌, ◌-◌, ◌<◌, ◌≤◌, true, not, ◌&&◌, eqb, ltb, List, [], ◌∷◌, length, map, get_or, set, ℤ, pos, ◌-ℤ◌, nat_abs, sym, ap, ◌∙◌, ⊎_elim, arith}
+use Rattle.std.proofs.Common.{◌≡◌, ℕ, ◌+◌, ◌-◌, ◌<◌, ◌≤◌, true, not, ◌&&◌, eqb, ltb, List, [], ◌∷◌, length, map, get_or, set, ℤ, pos, ◌-ℤ◌, nat_abs, sym, ap, ◌∙◌, ⊎_elim, arith, w16, SFits}
+use Rattle.std.proofs.lemmas.Int.{ints}
 use Rattle.std.proofs.lemmas.List.{length-map, length-set, get_or-set_same, get_or-set_other, get_or-append-add}
 use Rattle.std.proofs.lemmas.List.FromFn.{get_or-map-range_with_len}
 use Rattle.std.specs.List.{range_with_len}
 use Rattle.std.proofs.lemmas.Bool.{cases_eq, eq-eqb, lt-ltb}
 use Rattle.book.specs.declared.ZoneRecord.{ZoneRecord}
 use Rattle.book.specs.declared.Answer.TheVariants.{Zone}
-use Rattle.book.specs.Limits.{zone_overrun}
+use Rattle.book.specs.Limits.{PositionAllowed, zone_overrun}
 use Rattle.book.specs.Views.{View, net_of, record_of, limit_of}
 use Rattle.book.specs.Calls.{zone_told}
 use Rattle.zones.specs.Sums.{part, total}
@@ -70,6 +71,10 @@ net_collected t flow flows z all l =
   where
     none : {d : ℕ} → d ≡ 0 → part (leads_from (up t) z d) (flow_in flows d) ≡ part (leads_from (up t) z d) (flow d)
     none {d} e = ap (λ b. part (not b && eqb (up t d) z) (flow_in flows d)) (eq-eqb d 0 e) ∙ sym (ap (λ b. part (not b && eqb (up t d) z) (flow d)) (eq-eqb d 0 e))
+
+-- a position fits an i16
+pub position_fits : (m : ℤ) → PositionAllowed m → SFits w16 m
+position_fits m h = let lo = h.0 in let hi = h.1 in omega (arith, ints)
 
 -- what is told of a zone
 pub zone_told_is : (v : View) (z p : ℤ) (k : ℕ) (net over : ℤ) (r : ZoneRecord) → k ≡ nat_abs z → net ≡ net_of v k p → r ≡ record_of v k p → over ≡ zone_overrun r.limit net →

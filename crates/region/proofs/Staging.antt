@@ -1,7 +1,8 @@
 -- Staged positions, summed zone by zone.
-use Rattle.std.proofs.Common.{◌≡◌, ℕ, ◌+◌, ◌*◌, ◌<◌, ◌≤◌, true, false, ltb, List, length, ℤ, pos, ◌+ℤ◌, ◌≤ℤ◌, Ok, Err, Result, sym, refl, ap, ◌∙◌, subst, ⊎_elim, arith, w16, SFits}
+use Rattle.std.proofs.Common.{◌≡◌, ℕ, ◌+◌, ◌*◌, ◌<◌, ◌≤◌, true, false, ltb, List, length, get_or, set, ℤ, pos, ◌+ℤ◌, ◌≤ℤ◌, Ok, Err, Result, sym, refl, ap, ◌∙◌, subst, ⊎_elim, arith, w16, SFits}
 use Rattle.std.proofs.lemmas.Int.{ints}
 use Rattle.std.proofs.lemmas.Bool.{cond-true, cond-false, cases_eq, lt-ltb}
+use Rattle.std.proofs.lemmas.List.{get_or-set_same, get_or-set_other}
 use Rattle.borders.specs.Day.{Schedule}
 use Rattle.borders.specs.Border.{Meaning, Admitted, with_schedule}
 use Rattle.borders.specs.Answers.{AdoptAnswer}
@@ -71,6 +72,14 @@ behind_told t c z a b l =
     let two : ltb c (zones t) ≡ true = lt-ltb c (zones t) b in
     let three : ltb z (zones t) ≡ true = lt-ltb z (zones t) l in
     rw (one, two, three) refl
+
+-- a list filled by a rule, one place after another
+pub fill_more : (f : ℕ → ℤ) (xs : List ℤ) (i : ℕ) (x : ℤ) → i < length xs → x ≡ f i → ((j : ℕ) → j < i → get_or xs j (pos 0) ≡ f j) → (j : ℕ) → j < i + 1 → get_or (set xs i x) j (pos 0) ≡ f j
+fill_more f xs i x l e h j m =
+    ⊎_elim
+    (λ (q : j ≡ i). ap (λ t. get_or (set xs i x) t (pos 0)) q ∙ get_or-set_same xs i x (pos 0) l ∙ e ∙ ap f (sym q))
+    (λ (ne : j ≡ i → ⊥). get_or-set_other xs i j x (pos 0) ne ∙ h j (omega arith))
+    (cases_eq j i)
 
 -- the borders after those below k have adopted their schedules
 pub record Settling (n : ℕ) (up : ℕ → ℕ) (rs : List ZoneRecord) (was new : List Meaning) (k : ℕ) : Type 0 where
