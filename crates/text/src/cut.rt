@@ -52,10 +52,12 @@ impl<'a> Iterator for Lines<'a> {
 fn first_line(bytes: &[u8]) -> (&[u8], &[u8])
     ensures { LineCut bytes.now result.0.now result.1.now }
 {
-    match bytes.iter().position(|b| *b == b'\n') {
-        Some(end) => (&bytes[..end], &bytes[end + 1..]),
-        None => (bytes, &[]),
+    for (end, b) in bytes.iter().enumerate() {
+        if *b == b'\n' {
+            return (&bytes[..end], &bytes[end + 1..]);
+        }
     }
+    (bytes, &[])
 }
 
 /// Whether `line` has more bytes than a line may have.
