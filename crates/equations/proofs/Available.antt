@@ -1,10 +1,10 @@
 -- The available capacity of a line, by whether the flow goes that way; and how far from 0 capacities lie.
-use Rattle.std.proofs.Common.{◌≡◌, ℕ, Bool, true, false, cond, ◌⊎◌, ℤ, pos, ◌+ℤ◌, ◌-ℤ◌, ◌≤ℤ◌, ◌<ℤ◌, refl, inl, inr, arith, w32, w64, SFits}
+use Rattle.std.proofs.Common.{◌≡◌, ℕ, Bool, true, false, cond, ◌⊎◌, ℤ, pos, ◌+ℤ◌, ◌-ℤ◌, ◌≤ℤ◌, ◌<ℤ◌, refl, inl, inr, arith, lit<, w32, w64, SFits}
 use lib.Signed.{lt_z}
 use Rattle.std.specs.Int.{int_min}
 use Rattle.std.proofs.lemmas.Int.{ints, clamps}
-use Rattle.equations.specs.Ranges.{Near, Small}
-use Rattle.equations.specs.Capacities.{available, line_available, net_capacity, counted}
+use Rattle.equations.specs.Ranges.{between, Near, Small}
+use Rattle.equations.specs.Capacities.{available, line_available, net_capacity, counted, settled_capacity, circuit_cap}
 use Rattle.equations.specs.declared.capacity.Side.{Side}
 use Rattle.equations.specs.declared.capacity.Direction.{Direction}
 use Rattle.equations.specs.declared.capacity.Direction.TheVariants.{Forward, Backward}
@@ -78,3 +78,27 @@ line_near c m a p hc hm ha hp = by_way (lt_z (pos 0) a)
 -- the flow less a capacity that is near
 pub backward_fits : (a x : ℤ) → SFits w32 a → Near 4000000000000 x → SFits w64 (a -ℤ x)
 backward_fits a x ha hx = omega (arith, ints)
+
+-- a limit is the flow and a capacity that is near
+pub limit_fits : (a x : ℤ) → SFits w32 a → Near 4000000000000 x → SFits w64 (a +ℤ x) × SFits w64 (a -ℤ x)
+limit_fits a x ha hx = (omega (arith, ints), backward_fits a x ha hx)
+
+-- the capacities of the kinds but the line are small
+pub given_small : (x : ℤ) → SFits w32 x → Small x
+given_small x h = (omega (arith, ints), omega (arith, ints))
+
+pub cable_small : (x y : ℤ) → SFits w32 x → SFits w32 y → Small (int_min x y)
+cable_small x y hx hy = omega (arith, ints, clamps)
+
+settled_fits : (x : ℤ) → SFits w32 x → SFits w32 (settled_capacity x)
+settled_fits x h = elim (lt_z x (pos 50)) as (λ b. SFits w32 (cond b (pos 0) x)) [ true ↦ record { sfits = lit< tt } | false ↦ h ]
+
+cap_between : (to : Direction) (n : ℤ) → (pos 485 ≤ℤ circuit_cap to n) × (circuit_cap to n ≤ℤ pos 492)
+cap_between Forward n = elim (between (pos 2) n (pos 2)) as (λ b. (pos 485 ≤ℤ cond b (pos 488) (pos 485)) × (cond b (pos 488) (pos 485) ≤ℤ pos 492)) [ true ↦ (omega (arith, ints), omega (arith, ints)) | false ↦ (omega (arith, ints), omega (arith, ints)) ]
+cap_between Backward n = (omega (arith, ints), omega (arith, ints))
+
+capped_small : (x y cap : ℤ) → SFits w32 x → SFits w32 y → pos 485 ≤ℤ cap → cap ≤ℤ pos 492 → Small (int_min (int_min x y) cap)
+capped_small x y cap hx hy h k = omega (arith, ints, clamps)
+
+pub settlement_small : (x y : ℤ) (to : Direction) (n : ℤ) → SFits w32 x → SFits w32 y → Small (int_min (int_min (settled_capacity x) (settled_capacity y)) (circuit_cap to n))
+settlement_small x y to n hx hy = capped_small (settled_capacity x) (settled_capacity y) (circuit_cap to n) (settled_fits x hx) (settled_fits y hy) (cap_between to n).0 (cap_between to n).1

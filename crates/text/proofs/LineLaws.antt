@@ -1,8 +1,9 @@
 -- Laws of `lines`, for the handing out of lines and for the crates above.
-use Rattle.std.proofs.Common.{◌≡◌, ℕ, suc, ◌+◌, ◌<◌, ◌≤◌, eqb, List, [], ◌∷◌, ◌++◌, length, get_or, take, drop, sym, refl, ap, ◌∙◌, inl, inr, arith}
+use Rattle.std.proofs.Common.{◌≡◌, ℕ, suc, ◌+◌, ◌<◌, ◌≤◌, eqb, List, [], ◌∷◌, ◌++◌, length, get_or, take, drop, sym, refl, ap, ◌∙◌, inl, inr, add-one, arith}
 use lib.Seq.{split_at}
 use Rattle.std.proofs.lemmas.Grind.{common_steps}
 use Rattle.std.proofs.lemmas.Bool.{cases_lt, cond_both, ne_eqb}
+use Rattle.std.proofs.lemmas.List.{drop-drop}
 use Rattle.text.specs.Lines.{begins, lines, LineCut}
 
 pub lines_nil : lines [] ≡ []
@@ -41,7 +42,7 @@ lines_cut bs line rest some cut = elim cut.parts [
 ]
 
 -- the bytes before the first byte 10, or all of them if there is none, are a line cut off the front
-cut_at : (bs : List ℕ) (n : ℕ) → n ≤ length bs → ((k : ℕ) → k < n → get_or bs k 0 ≡ 10 → ⊥) → (n < length bs → get_or bs n 0 ≡ 10) → LineCut bs (take n bs) (drop (suc n) bs)
+pub cut_at : (bs : List ℕ) (n : ℕ) → n ≤ length bs → ((k : ℕ) → k < n → get_or bs k 0 ≡ 10 → ⊥) → (n < length bs → get_or bs n 0 ≡ 10) → LineCut bs (take n bs) (drop (suc n) bs)
 cut_at bs n within before found = record {
   unbroken = λ k h. grind (arith, common_steps);
   parts = elim (cases_lt n (length bs)) [ inl h ↦ inl (rw (found h) at (split_at bs n 0 h)) | inr h ↦ inr (grind (arith, common_steps), grind (arith, common_steps)) ];
@@ -74,3 +75,18 @@ length_lines_le [] = omega arith
 length_lines_le (b ∷ bs) =
     let shorter = length_lines_le bs in
     cond_both (eqb b 10) ([] ∷ lines bs) (begins b (lines bs)) (λ ls. length ls ≤ suc (length bs)) (λ _. omega arith) (λ _. omega (arith, (begins_length b (lines bs)).1))
+
+-- where what stands behind the first n bytes is given as parts: what stands behind the byte that ends the line
+parts_at : (bs after behind : List ℕ) (n : ℕ) → after ≡ drop n bs → behind ≡ drop 1 after → behind ≡ drop (suc n) bs
+parts_at bs after behind n back next = next ∙ ap (drop 1) back ∙ drop-drop 1 n bs ∙ ap (λ k. drop k bs) (add-one n)
+
+-- the parts of what is left, where a line of n bytes is cut off its front
+pub cut_parts : (bs line after behind : List ℕ) (n : ℕ) → n ≤ length bs → ((k : ℕ) → k < n → get_or bs k 0 ≡ 10 → ⊥) → (n < length bs → get_or bs n 0 ≡ 10) → line ≡ take n bs → after ≡ drop n bs → behind ≡ drop 1 after → LineCut bs line behind
+cut_parts bs line after behind n within before stop front back next =
+    let e = parts_at bs after behind n back next in
+    rw (front, e) (cut_at bs n within before stop)
+
+-- and the lines that they make up
+pub lines_cut_at : (bs line after behind : List ℕ) (n : ℕ) → 0 < length bs → n ≤ length bs → ((k : ℕ) → k < n → get_or bs k 0 ≡ 10 → ⊥) → (n < length bs → get_or bs n 0 ≡ 10) → line ≡ take n bs → after ≡ drop n bs → behind ≡ drop 1 after → lines bs ≡ line ∷ lines behind
+lines_cut_at bs line after behind n some within before found front back next =
+    lines_cut bs line behind some (cut_parts bs line after behind n within before found front back next)

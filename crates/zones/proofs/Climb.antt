@@ -1,6 +1,6 @@
 -- The climb that finds a way: the higher of two zones moves to its parent until they meet.
 use Rattle.std.proofs.Common.{◌≡◌, ℕ, ◌+◌, ◌-◌, ◌<◌, ◌≤◌, List, [], ◌∷◌, ◌++◌, length, take, drop, set, sym, ap, ◌∙◌, arith}
-use Rattle.std.proofs.lemmas.List.{append_assoc, length-set, take_more_set, take-set-le, drop-set, drop-set-lt, take_rest, length-drop}
+use Rattle.std.proofs.lemmas.List.{append-nil, append_assoc, drop_all, length-set, take_more_set, take-set-le, drop-set, drop-set-lt, take_rest, length-drop}
 use Rattle.std.proofs.lemmas.List.Edits.{take-paste}
 use Rattle.std.specs.List.{copy_within}
 use Rattle.equations.specs.declared.capacity.Direction.TheVariants.{Forward, Backward}
@@ -65,3 +65,13 @@ module _ {up : ℕ → ℕ} (ordered : Ordered up) {s b x y : ℕ} {steps : List
       ∙ ap (λ xs. take front steps ++ (xs ++ drop back steps)) (sym (none_between up ordered x y met))
       ∙ climbing.so_far
       ∙ way_by_sides up ordered s b
+
+-- at first no step is written, and the whole way is left
+pub climb_starts : (up : ℕ → ℕ) (s b : ℕ) (steps : List Step) → length steps ≡ 15 → s < 16 → b < 16 → Climbing up s b s b steps 0 15
+climb_starts up s b steps e l k = record {
+  memory = e;
+  end = omega arith;
+  room_for_seller = omega arith;
+  room_for_buyer = omega arith;
+  so_far = ap (λ xs. by_sides up s b ++ xs) (drop_all 15 steps (omega arith)) ∙ append-nil (by_sides up s b);
+}

@@ -1,5 +1,6 @@
 -- The flows of the borders that lead from a zone, summed one by one.
-use Rattle.std.proofs.Common.{◌≡◌, ℕ, ◌+◌, ◌*◌, ◌≤◌, true, false, not, ◌&&◌, eqb, List, ℤ, pos, ◌+ℤ◌, ◌-ℤ◌, ◌≤ℤ◌, sym, ap, ◌∙◌, ⊎_elim, arith}
+use Rattle.std.proofs.Common.{◌≡◌, ℕ, ◌+◌, ◌-◌, ◌*◌, ◌<◌, ◌≤◌, true, false, not, ◌&&◌, eqb, ◌⊎◌, List, [], ◌∷◌, length, get_or, ℤ, pos, ◌+ℤ◌, ◌-ℤ◌, ◌≤ℤ◌, sym, ap, ◌∙◌, ⊎_elim, arith}
+use Rattle.std.proofs.lemmas.List.{get_or_past, get_or-append-add}
 use Rattle.std.proofs.lemmas.Int.{ints}
 use Rattle.std.proofs.lemmas.Bool.{cases_eq, eq-eqb, ne_eqb, cond-true, cond-false}
 use Rattle.zones.specs.Sums.{part, total}
@@ -55,3 +56,16 @@ module _ {up : ℕ → ℕ} {flows : List ℤ} {z k : ℕ} {sum : ℤ} (summed :
       let b = own_flow flows z in
       let v = summed.value in
       omega (arith, ints)
+
+-- flows are told for borders from 1: where there is none it is 0, and that of border c stands at place c - 1
+pub flow_past : (flows : List ℤ) (c : ℕ) → (c ≡ 0) ⊎ (length flows < c) → pos 0 ≡ flow_in flows c
+flow_past flows c none = ⊎_elim
+    (λ (e : c ≡ 0). ap (flow_in flows) (sym e))
+    (λ (l : length flows < c). sym (get_or_past (pos 0 ∷ flows) c (pos 0) (let e = length_cons (pos 0) flows in omega arith)))
+    none
+  where
+    length_cons : (x : ℤ) (xs : List ℤ) → length (x ∷ xs) ≡ length xs + 1
+    length_cons x xs = omega arith
+
+pub flow_at : (flows : List ℤ) (c : ℕ) (flow : ℤ) → 1 ≤ c → flow ≡ get_or flows (c - 1) (pos 0) → flow ≡ flow_in flows c
+flow_at flows c flow l e = e ∙ sym (get_or-append-add (pos 0 ∷ []) flows (c - 1) (pos 0)) ∙ ap (λ k. get_or (pos 0 ∷ flows) k (pos 0)) (omega arith)

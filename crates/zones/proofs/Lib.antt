@@ -4,5 +4,6 @@ pub mod Flows
 pub mod Sides
 pub mod Crossed
 pub mod Climb
+pub mod Listed
 pub mod Table
 pub mod Leads

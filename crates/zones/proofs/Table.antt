@@ -1,6 +1,6 @@
 -- The table of parents: those given stand behind the parent of zone 0, and zones beyond them have 0.
-use Rattle.std.proofs.Common.{◌≡◌, ℕ, ◌+◌, ◌-◌, ◌<◌, ◌≤◌, List, ◌∷◌, ◌++◌, length, get_or, drop, replicate, sym, refl, ap, ◌∙◌, ⊎_elim, arith}
-use Rattle.std.proofs.lemmas.List.{get_or_append_left, get_or-append_right, get_or_past, get_or-replicate, length-replicate, drop-replicate}
+use Rattle.std.proofs.Common.{◌≡◌, ℕ, ◌+◌, ◌-◌, ◌<◌, ◌≤◌, List, [], ◌∷◌, ◌++◌, length, get_or, drop, replicate, sym, refl, ap, ◌∙◌, ⊎_elim, arith}
+use Rattle.std.proofs.lemmas.List.{get_or_append_left, get_or-append_right, get_or-append-add, get_or_past, get_or-replicate, length-replicate, drop-replicate}
 use Rattle.std.proofs.lemmas.Bool.{cases_lt}
 use Rattle.zones.specs.Trees.{parent_in, AllowedBelow}
 
@@ -29,3 +29,7 @@ parents_ordered given allowed z l = ⊎_elim
     (λ (k : z < length given + 1). allowed z l k)
     (λ (k : length given + 1 ≤ z). let e = get_or_past (0 ∷ given) z 0 (omega arith) in omega arith)
     (cases_lt z (length given + 1))
+
+-- the parent of zone i + 1 stands at place i
+pub parent_next : (given : List ℕ) (i : ℕ) → parent_in given (i + 1) ≡ get_or given i 0
+parent_next given i = ap (λ k. get_or (0 ∷ given) k 0) (omega arith) ∙ get_or-append-add (0 ∷ []) given i 0
