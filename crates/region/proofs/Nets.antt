@@ -1,5 +1,5 @@
 -- The net position of a zone from the flows of the borders, collected one by one.
-use Rattle.std.proofs.Common.{◌≡◌, ℕ, ◌+◌, ◌-◌, ◌<◌, ◌≤◌, true, not, ◌&&◌, eqb, ltb, List, [], ◌∷◌, length, map, get_or, set, ℤ, pos, ◌-ℤ◌, nat_abs, sym, ap, ◌∙◌, ⊎_elim, arith, w16, SFits}
+use Rattle.std.proofs.Common.{◌≡◌, ℕ, ◌+◌, ◌-◌, ◌<◌, ◌≤◌, true, not, ◌&&◌, eqb, List, [], ◌∷◌, length, map, get_or, set, ℤ, pos, ◌-ℤ◌, nat_abs, sym, ap, ◌∙◌, ⊎_elim, arith, w16, SFits}
 use Rattle.std.proofs.lemmas.Int.{ints}
 use Rattle.std.proofs.lemmas.List.{length-map, length-set, get_or-set_same, get_or-set_other, get_or-append-add}
 use Rattle.std.proofs.lemmas.List.FromFn.{get_or-map-range_with_len}
@@ -44,12 +44,6 @@ all_collected flow flows k few all = record {
   memory = ap length all ∙ length-map (range_with_len 0 15) (λ k. flow (k + 1));
   each = λ c l m. ap (λ xs. get_or xs (c - 1) (pos 0)) all ∙ get_or-map-range_with_len (λ k. flow (k + 1)) 0 15 (c - 1) (c - 1) (pos 0) (omega arith) (omega arith) ∙ ap flow (omega arith);
 }
-
--- so are flows made of the borders below a number alone, as far as these go
-pub asked_collected : (flow : ℕ → ℤ) (flows : List ℤ) (n : ℕ) → n ≤ 16 → flows ≡ collected (λ c. part (ltb c n) (flow c)) → Collected flow flows n
-asked_collected flow flows n few all =
-    let made = all_collected (λ c. part (ltb c n) (flow c)) flows n few all in
-    record { memory = made.memory; each = λ c l m. made.each c l m ∙ ap (λ b. part b (flow c)) (lt-ltb c n m) }
 
 told : (flow : ℕ → ℤ) (flows : List ℤ) (n : ℕ) → Collected flow flows n → (c : ℕ) → 1 ≤ c → c < n → flow_in flows c ≡ flow c
 told flow flows n all c l m = ap (λ k. get_or (pos 0 ∷ flows) k (pos 0)) (omega arith) ∙ get_or-append-add (pos 0 ∷ []) flows (c - 1) (pos 0) ∙ all.each c l m

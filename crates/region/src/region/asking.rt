@@ -1,7 +1,6 @@
 //! What a region is asked.
-ghost use Rattle.std.specs.Prelude.{◌≡◌, ◌<◌, ◌+◌};
-ghost use Rattle.zones.specs.Sums.{part};
-ghost use Rattle.zones.specs.Trees.{zones, up, is_zone, InReach};
+ghost use Rattle.std.specs.Prelude.{◌≡◌, ◌<◌};
+ghost use Rattle.zones.specs.Trees.{zones, up, InReach};
 ghost use Rattle.zones.specs.Ways.{net_of_flows};
 ghost use Rattle.borders.specs.Border.{flow_of};
 ghost use Rattle.borders.specs.Bank.{border_at};
@@ -30,26 +29,16 @@ fn overrun(limit: Option<ZoneLimit>, net: i64) -> i64
 }
 
 impl<B: Bank> Region<B> {
-    // The flow of the border after k others in a period; 0 where the region has no such border, which is then not asked.
-    fn flow_after(&self, k: usize, period: i32) -> i32
-        requires { k < 15 }
-        ensures { result ≡ part (is_zone self.now.kept.tree (k + 1)) (flow_of (border_at (B.Bank.borders self.now.bank) (k + 1)) period) }
-    {
-        let border = k + 1;
-        if border < self.kept.tree.count() {
-            self.bank.flow(border, period)
-        } else {
-            0
-        }
-    }
-
     // The net position that the flows of the borders leave a zone in a period.
     fn net(&self, zone: usize, period: i32) -> i64
         requires { zone < zones self.now.kept.tree }
         ensures value { result ≡ net_of_flows (zones self.now.kept.tree) (up self.now.kept.tree) (λ c. flow_of (border_at (B.Bank.borders self.now.bank) c) period) zone }
         ensures range { InReach result }
     {
-        let flows: [i32; MOST_BORDERS] = std::array::from_fn(|k| self.flow_after(k, period));
+        let mut flows = [0; MOST_BORDERS];
+        for border in 1..self.kept.tree.count() {
+            flows[border - 1] = self.bank.flow(border, period);
+        }
         self.kept.tree.net_position(&flows, zone)
     }
 

@@ -53,16 +53,17 @@ impl<B: Bank> Region<B> {
             (λ x. Fit parents.now (B.Bank.borders bank) × ((deals : LogOf DealOf) (sheets : LogOf SheetOf) → seen B.Bank.borders x deals sheets ≡ as_made parents.now (B.Bank.borders bank) (logged deals) (logged sheets)))
             (λ e. UnfitAs parents.now (B.Bank.borders bank) e.fault × (e.bank ≡ bank)) }
     {
-        match fit(parents, &bank) {
-            Ok(tree) => Ok(Region {
-                kept: KeptZones {
-                    tree,
-                    table: ZoneTable::new(),
-                },
-                bank,
-                state: State::Drafting,
-            }),
-            Err(fault) => Err(Unmade { bank, fault }),
-        }
+        let tree = match fit(parents, &bank) {
+            Ok(tree) => tree,
+            Err(fault) => return Err(Unmade { bank, fault }),
+        };
+        Ok(Region {
+            kept: KeptZones {
+                tree,
+                table: ZoneTable::new(),
+            },
+            bank,
+            state: State::Drafting,
+        })
     }
 }
