@@ -2,7 +2,7 @@
 use Rattle.std.proofs.Common.{◌≡◌, ℕ, zero, suc, ◌<◌, ◌≤◌, Bool, true, false, IsTrue, ◌↔◌, List, [], ◌∷◌, length, get_or, drop, ℤ, pos, negsuc, neg_ℤ, decimal, Some, IfSome, MatchOption, Ok, Err, Result, FitsSigned, w32, sym, refl, ap, ◌∙◌, inl, inr, arith}
 use lib.Signed.{mag}
 use Rattle.std.proofs.lemmas.Bool.{false≢true}
-use Rattle.std.proofs.lemmas.Fmt.{IsAscii-signed, decimal_digit, decimal_nonempty, decimal-digits_value, digits_decimal, first_decimal, length_signed_le, decimal_injective, parse-signed_decimal, signed_decimal_injective}
+use Rattle.std.proofs.lemmas.Fmt.{IsAscii-signed, decimal_digit, decimal_nonempty, decimal-digits_value, first_decimal, length_signed_le, decimal_injective, parse-signed_decimal, signed_decimal_injective}
 use Rattle.std.proofs.lemmas.Int.{ints}
 use Rattle.std.proofs.lemmas.Str.{IsUtf8-from_ascii}
 use Rattle.std.proofs.lemmas.Str.Parse.{IsNumeralModel, numerals_by_value, parse_signed_minus, parse_signed_plain, tells_by_index}
@@ -12,22 +12,12 @@ use Rattle.std.specs.Int.{IsInRange}
 use Rattle.std.specs.Result.{result_ok}
 use Rattle.std.specs.Str.{IsUtf8}
 use Rattle.std.specs.Str.Parse.{ParsesSigned, digits_value}
-use Rattle.text.proofs.DigitLaws.{first_digit}
+use Rattle.text.proofs.DigitLaws.{AllDigits, first_digit}
 use Rattle.text.specs.Numbers.{Allowed, BeginsRight, Writes}
-
-allowed_pos : (n : ℕ) → Allowed (pos n) → n ≤ 1000000
-allowed_pos n h = omega (arith, ints)
-
-allowed_negsuc : (n : ℕ) → Allowed (negsuc n) → suc n ≤ 1000000
-allowed_negsuc n h = omega (arith, ints)
 
 allowed_mag : (n : ℤ) → Allowed n → mag n ≤ 1000000
 allowed_mag (pos n) h = omega (arith, ints)
 allowed_mag (negsuc n) h = omega (arith, ints)
-
--- each byte is a digit
-abbrev AllDigits : List ℕ → Type 0
-AllDigits ds = (k : ℕ) → k < length ds → IsInRange 48 57 (get_or ds k 0)
 
 own : IsNumeralModel AllDigits (digits_value 10)
 own = numerals_by_value AllDigits tells_by_index
@@ -45,14 +35,14 @@ writes_short field n p =
 
 -- and at least one
 pub writes_some : (field : List ℕ) (n : ℤ) → Writes field n → 0 < length field
-writes_some field (pos n) p = omega (arith, ap length p.1, decimal_nonempty n (omega (arith, allowed_pos n p.0)))
+writes_some field (pos n) p = omega (arith, ap length p.1, decimal_nonempty n (omega (arith, allowed_mag (pos n) p.0)))
 writes_some field (negsuc n) p = omega (arith, ap length p.1)
 
 -- what stands after a `-` in front are the digits of a number other than 0
 pub minus_only : (field ds : List ℕ) (b : ℕ) (n : ℤ) → field ≡ b ∷ ds → b ≡ 45 → Writes field n → (m : ℕ) × (0 < m) × (m ≤ 1000000) × (ds ≡ decimal m)
 minus_only field ds b (pos n) e minus p =
-    absurd (omega (arith, first_digit n (allowed_pos n p.0), ap (λ bs. get_or bs 0 0) (sym p.1 ∙ e)))
-minus_only field ds b (negsuc n) e minus p = (suc n, omega arith, allowed_negsuc n p.0, ap (drop 1) (sym e ∙ p.1))
+    absurd (omega (arith, first_digit n (allowed_mag (pos n) p.0), ap (λ bs. get_or bs 0 0) (sym p.1 ∙ e)))
+minus_only field ds b (negsuc n) e minus p = (suc n, omega arith, omega (arith, ints, p.0), ap (drop 1) (sym e ∙ p.1))
 
 pub no_minus_zero : (field ds : List ℕ) (b m : ℕ) (n : ℤ) → field ≡ b ∷ ds → b ≡ 45 → ds ≡ decimal m → m ≡ 0 → Writes field n → ⊥
 no_minus_zero field ds b m n e minus is none p =
@@ -76,7 +66,7 @@ writes_read field n r p read =
 -- the first digit of a number above 0 is not 0
 first_above_0 : (n : ℕ) → 0 < n → n ≤ 1000000 → IsInRange 49 57 (get_or (decimal n) 0 0)
 first_above_0 n some small =
-    let digit = digits_decimal own n (omega arith) 0 (decimal_nonempty n (omega arith)) in
+    let digit = first_digit n small in
     omega (arith, first_decimal n some (omega arith))
 
 pub writes_begins : (field : List ℕ) (n : ℤ) → Writes field n → BeginsRight field
